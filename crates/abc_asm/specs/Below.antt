@@ -160,5 +160,6 @@ body_of head below = record {
   traits = below.traits;
 }
 
+-- a body: its line, and below it the lines of its code, its handlers and its traits
 abbrev pub body_item : Item Body
 body_item = headed_item body_value body_below body_of

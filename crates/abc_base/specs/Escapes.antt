@@ -1,4 +1,4 @@
--- How bytes are shown in a text.
+-- How bytes are shown in a text (profile: docs/PROGRAM.md, "Words", and docs/ASSEMBLY.md).
 use Rattle.std.specs.Prelude.{ℕ, ◌+◌, ◌/◌, ◌%◌, List, [], ◌∷◌, Bool, not, nat_eq, nat_le, nat_lt, ◌&&◌, if◌then◌else◌}
 use Rattle.std.specs.List.{flat_map}
 
@@ -14,5 +14,6 @@ hex_digit n = if nat_lt n 10 then 48 + n else 87 + n
 abbrev pub escape_of : ℕ → List ℕ
 escape_of byte = if is_plain byte then byte ∷ [] else 0x5c ∷ hex_digit (byte / 16) ∷ hex_digit (byte % 16) ∷ []
 
+-- the bytes as a text shows them: each plain byte as it is, and every other one escaped
 unfoldable pub escaped : List ℕ → List ℕ
 escaped bytes = flat_map escape_of bytes

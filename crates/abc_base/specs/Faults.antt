@@ -1,4 +1,4 @@
--- When a source or a sink may say that it failed.
+-- When a source or a sink may say that it failed (profile: docs/THEOREMS.md, "Sources, sinks, words and the host").
 use Rattle.std.specs.Prelude.{ℕ, ◌+◌, ◌-◌, ◌^◌, ◌≤◌, min, OnErr}
 use Rattle.std.specs.declared.result.Result.{Result}
 

@@ -1,4 +1,4 @@
--- The formulas of a host.
+-- The formulas of a host (profile: docs/EMBEDDING.md, "The host").
 use Rattle.std.specs.Prelude.{◌≡◌, ℕ, ◌-◌, ◌^◌, ◌≤◌, ℤ, pos, negsuc, ◌+ℤ◌, ◌*ℤ◌, ◌≤ℤ◌, int_le, ◌&&◌, List, [], ◌∷◌, length, take, get_or, map, codes, All, AllPairs, Some, None, if◌then◌else◌}
 use Rattle.std.specs.declared.option.Option.{Option}
 use Rattle.abc_base.specs.Names.{class_name, host_classes}
@@ -64,5 +64,6 @@ twice = record { name = codes "twice"; constant = pos 0; factors = pos 2 ∷ [] 
 abbrev pub plus : Formula
 plus = record { name = codes "plus"; constant = pos 0; factors = pos 1 ∷ pos 1 ∷ [] }
 
+-- the formulas of the built-in host: `twice` is number 0, and `plus` number 1
 abbrev pub builtin_formulas : List Formula
 builtin_formulas = twice ∷ plus ∷ []

@@ -1,4 +1,4 @@
--- Names and codes.
+-- Names and codes (profile: docs/LINKING.md for classes of the host, docs/MACHINE.md for faults, docs/PROGRAM.md for statuses).
 use Rattle.std.specs.Prelude.{ℕ, List, [], ◌∷◌, codes}
 use Rattle.abc_base.specs.declared.names.HostClass.{HostClass}
 use Rattle.abc_base.specs.declared.names.HostClass.TheVariants as classes

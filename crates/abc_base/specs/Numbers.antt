@@ -1,4 +1,5 @@
--- How numbers are spelled: seven bits a byte, the low bits first, and the high bit is set where another byte follows.
+-- How numbers are spelled: seven bits a byte, the low bits first, and the high bit is set where another byte follows
+-- (Overview, chapter 4; profile: docs/FORMAT.md, "Numbers" and "Canonical bytes").
 use Rattle.std.specs.Prelude.{◌≡◌, ℕ, ℤ, zero, suc, pos, ◌-ℤ◌, ◌+◌, ◌*◌, ◌/◌, ◌%◌, ◌^◌, ◌<◌, ◌≤◌, List, [], ◌∷◌, ◌++◌, length, nat_lt, if◌then◌else◌}
 use Rattle.std.specs.List.{AllByRecursion, enumerate_from, sum_by}
 

@@ -1,4 +1,4 @@
--- The numbers that code computes with.
+-- The numbers that code computes with (profile: docs/MACHINE.md, "Values, conversions and operations").
 use Rattle.std.specs.Prelude.{ℤ, pos, negsuc, ◌≤ℤ◌}
 
 -- from -2147483648 to 4294967295

@@ -1,4 +1,5 @@
--- What is written to a sink: all of a piece, or the front of it where writing failed.
+-- What is written to a sink: all of a piece, or the front of it where writing failed
+-- (profile: docs/THEOREMS.md, "Sources, sinks, words and the host").
 use Rattle.std.specs.Prelude.{◌≡◌, ℕ, List, take, IsSome, MatchResult}
 use Rattle.std.specs.Io.KnownBytes.{append_known}
 use Rattle.std.specs.declared.option.Option.{Option}

@@ -1,4 +1,4 @@
--- Graphs: for each node the list of the nodes that it leads to.
+-- Graphs: for each node the list of the nodes that it leads to (a tool of other definitions).
 use Rattle.std.specs.Prelude.{◌≡◌, ℕ, ◌<◌, List, [], All, Contains, Bool, true, false, length, get_or, Some, None}
 use Rattle.std.specs.declared.option.Option.{Option}
 
@@ -20,6 +20,7 @@ Returns graph x = Leads graph x x
 
 -- ---- sets of nodes, as one mark for each node
 
+-- the node x is one of those that are marked
 pub record Has (marks : List Bool) (x : ℕ) : Type 0 where
   pub marked : get_or marks x false ≡ true
 

@@ -1,10 +1,11 @@
--- Lists of values under keys, of which each has first what its base has, and then its own.
+-- Lists of values under keys, of which each has first what its base has, and then its own (a tool of other definitions).
 use Rattle.std.specs.Prelude.{◌≡◌, ℕ, ◌<◌, List, Some, None, length, get_or, reverse}
 use Rattle.std.specs.declared.option.Option.{Option}
 use Rattle.std.specs.List.{flat_map}
 use Rattle.abc_base_graphs.specs.Ways.{way}
 use Rattle.abc_base_graphs.specs.Listed.{Listed, empty}
 
+-- the list of the number l; past the end it is empty
 abbrev pub list_at : {T : Type 0} → List (Listed T) → ℕ → Listed T
 list_at lists l = get_or lists l empty
 

@@ -1,4 +1,4 @@
--- Orders of the nodes of a forest, in which each node stands behind its base.
+-- Orders of the nodes of a forest, in which each node stands behind its base (a tool of other definitions).
 use Rattle.std.specs.Prelude.{◌≡◌, ℕ, zero, suc, ◌+◌, ◌<◌, ◌⊎◌, List, [], ◌∷◌, ◌++◌, Bool, Some, None, if◌then◌else◌, map, length, get_or, Contains, nat_eq}
 use Rattle.std.specs.declared.option.Option.{Option}
 use Rattle.std.specs.Option.{option_to_list}

@@ -1,4 +1,4 @@
--- Texts by their numbers.
+-- Texts by their numbers (a tool of other definitions).
 use Rattle.std.specs.Prelude.{◌≡◌, ℕ, List, [], ◌∷◌, cond, Some, unwrap_or, map, get_or, nat_eq}
 use Rattle.std.specs.declared.option.Option.{Option}
 use Rattle.std.specs.declared.hash.FoldHasher.{FoldHasher}
@@ -17,6 +17,7 @@ Map = IndexMap (Vec ℕ Global) ℕ (BuildHasherDefault FoldHasher)
 abbrev pub number_at : Map → List ℕ → Option ℕ
 number_at map text = get_by (λ k. bytes_eq text k.items) map
 
+-- the number of a text, if it has one
 abbrev pub number_in : Texts → List ℕ → Option ℕ
 number_in t text = number_at t.numbers text
 

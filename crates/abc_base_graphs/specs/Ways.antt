@@ -1,5 +1,5 @@
--- The way from a place along links, each of which leads to a lower place: from a layout to its base, from an object to its
--- delegate, from a scope to the one below it.
+-- The way from a place along links, each of which leads to a lower place: from a layout to its base, from an object to its delegate, from a scope to
+-- the one below it (a tool of other definitions).
 use Rattle.std.specs.Prelude.{◌≡◌, ℕ, zero, suc, ◌<◌, List, [], ◌∷◌, nat_eq, Some, None, if◌then◌else◌}
 use Rattle.std.specs.declared.option.Option.{Option}
 

@@ -21,6 +21,7 @@ pub data Means (keys : List Key) : ℕ → Tree → Type 0 where
   MeansLeaf : {c : ℕ} {h : Head} → slice_get keys c ≡ Some (leaf_key h) → Means keys c (Leaf h)
   MeansApply : {c tree part : ℕ} {t u : Tree} → slice_get keys c ≡ Some (apply_key tree part) → Means keys tree t → Means keys part u → Means keys c (Apply t u)
 
+-- the class of a node, if it has one
 abbrev pub class : List (Option ℕ) → ℕ → Option ℕ
 class classes x = get_or classes x None
 
@@ -30,10 +31,12 @@ pub record HasTree (heads : List Head) (graph : List (List ℕ)) (keys : List Ke
   pub is : IsTree heads graph x tree
   pub means : Means keys c tree
 
+-- the node x has a class
 pub record HasClass (classes : List (Option ℕ)) (x : ℕ) : Type 0 where
   pub number : ℕ
   pub is : class classes x ≡ Some number
 
+-- each of these nodes has a class
 abbrev pub AllClassed : List (Option ℕ) → List ℕ → Type 0
 AllClassed classes [] = Unit {0}
 AllClassed classes (x ∷ xs) = HasClass classes x × AllClassed classes xs

@@ -33,5 +33,6 @@ pub record AreHung (ranges : List Range) (t : Stabs) : Type 0 where
 abbrev pub IsFree : Stabs → ℕ → Type 0
 IsFree t x = (j k : ℕ) → HangsAt t (up j (leaf t x)) k → ⊥
 
+-- some range covers the place x
 abbrev pub IsTaken : Stabs → ℕ → Type 0
 IsTaken t x = (j : ℕ) × ((k : ℕ) × HangsAt t (up j (leaf t x)) k)

@@ -1,5 +1,5 @@
--- The trees of the nodes of a graph whose nodes have heads: at the root the head of the node, and under it the trees of the
--- nodes that it leads to, in order.
+-- The trees of the nodes of a graph whose nodes have heads: at the root the head of the node, and under it the trees of the nodes that it leads to,
+-- in order (profile: docs/TIDYING.md, "When two entries are one").
 use Rattle.std.specs.Prelude.{ℕ, List, [], ◌∷◌, Bool, false, nat_eq, ◌&&◌, get_or}
 use Rattle.abc_base_graphs.specs.Graph.{targets}
 use Rattle.abc_base_trees.specs.declared.heads.Head.{Head}

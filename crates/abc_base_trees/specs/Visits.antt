@@ -1,5 +1,5 @@
--- The visit of trees: each that was not met before takes its place at the end of those that were, and then the trees under
--- its root are visited in order.
+-- The visit of trees: each that was not met before takes its place at the end of those that were, and then the trees under its root are visited in
+-- order (profile: docs/TIDYING.md, "The visit").
 use Rattle.std.specs.Prelude.{◌≡◌, ℕ, ◌<◌, List, [], ◌∷◌, ◌++◌, Bool, true, false, if◌then◌else◌, get_or, length, Some}
 use Rattle.std.specs.declared.option.Option.{Option}
 use Rattle.std.specs.List.{list_any}

@@ -18,5 +18,6 @@ moved_handler v marks =
     image (λ x. record { from = x.0; to = x.1.0; target = x.1.1.0; exc_type = x.1.1.1.0; var_name = x.1.1.1.1 })
     (both (moved_place marks) (both (moved_place marks) (both (moved_place marks) (both (pool_index v.names) (pool_index v.names)))))
 
+-- the bytes of a handler whose three places were moved: they count bytes already, and are written as they are
 unfoldable pub moved_bytes : Handler → List ℕ
 moved_bytes h = number_bytes h.from ++ number_bytes h.to ++ number_bytes h.target ++ number_bytes h.exc_type ++ number_bytes h.var_name

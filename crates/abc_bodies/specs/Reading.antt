@@ -22,9 +22,11 @@ use Rattle.abc_file_types.specs.Traits.{trait_bytes, trait_info}
 abbrev pub is_free : List Bool → ℕ → Bool
 is_free flags m = not (unwrap_or (slice_get flags m) true)
 
+-- the index of a method that has no body yet: its flag is down
 unfoldable pub free_method : Sizes → List Bool → Part ℕ
 free_method v flags = checked (is_free flags) reasons.SecondBody (index_below v.methods)
 
+-- a body of such a method, with the starts of its instructions as they were read
 unfoldable pub free_body : Sizes → List Bool → Part (Body × List ℕ)
 free_body v flags = body_with v (free_method v flags)
 

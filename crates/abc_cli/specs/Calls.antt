@@ -1,4 +1,5 @@
--- What `calls` is answered with: a run, and then calls of the function `tick`, each on what the one before left, and each value on a line.
+-- What `calls` is answered with: a run, and then calls of the function `tick`, each on what the one before left, and each value on a line
+-- (profile: docs/PROGRAM.md, "Words" and "Statuses").
 use Rattle.std.specs.Prelude.{◌≡◌, ℕ, List, codes, None, Some}
 use Rattle.abc_base.specs.declared.formula.Formula.{Formula}
 use Rattle.abc_base.specs.declared.status.Status.TheVariants as status

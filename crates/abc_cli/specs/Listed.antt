@@ -1,4 +1,4 @@
--- What stands in `out` after a file was disassembled.
+-- What stands in `out` after a file was disassembled (profile: docs/THEOREMS.md, "The headline").
 use Rattle.std.specs.Prelude.{◌≡◌, ◌<◌, ◌≤◌, ℕ, List, All, length}
 use Rattle.abc_file.specs.Reading.{OfInput}
 use Rattle.abc_text_lines.specs.Answers.{IsAssemblyOf}

@@ -1,4 +1,4 @@
--- What stands in `out` after a file was logged.
+-- What stands in `out` after a file was logged (profile: docs/THEOREMS.md, "The headline").
 use Rattle.std.specs.Prelude.{◌≡◌, ℕ, List}
 use Rattle.abc_base.specs.declared.formula.Formula.{Formula}
 use Rattle.abc_heap_store.specs.declared.records.Limits.{Limits}

@@ -1,4 +1,4 @@
--- What `log` and `replay` are answered with.
+-- What `log` and `replay` are answered with (profile: docs/PROGRAM.md, "Logs").
 use Rattle.std.specs.Prelude.{◌≡◌, ℕ, List, ◌∷◌, ◌++◌, [], codes, decimal, length}
 use Rattle.abc_base.specs.declared.formula.Formula.{Formula}
 use Rattle.abc_base.specs.declared.status.Status.{Status}

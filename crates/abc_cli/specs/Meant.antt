@@ -1,4 +1,4 @@
--- What a meaning is answered with: what is written of it, and a line for each end but Done.
+-- What a meaning is answered with: what is written of it, and a line for each end but Done (profile: docs/PROGRAM.md, "Statuses").
 use Rattle.std.specs.Prelude.{◌≡◌, ℕ, List, unwrap_or}
 use Rattle.abc_base.specs.Names.{fault_name}
 use Rattle.abc_base.specs.declared.status.Status.{Status}

@@ -1,4 +1,4 @@
--- What `run` and `gen` are answered with.
+-- What `run` and `gen` are answered with (profile: docs/PROGRAM.md, "Words" and "Statuses").
 use Rattle.std.specs.Prelude.{◌≡◌, ℕ, List, ◌≢◌, ◌++◌}
 use Rattle.abc_base.specs.declared.formula.Formula.{Formula}
 use Rattle.abc_base.specs.declared.status.Status.TheVariants as status

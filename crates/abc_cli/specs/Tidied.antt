@@ -1,4 +1,4 @@
--- What stands in `out` after a file was tidied.
+-- What stands in `out` after a file was tidied (profile: docs/THEOREMS.md, "The headline").
 use Rattle.std.specs.Prelude.{◌≡◌, ℕ, List}
 use Rattle.abc_file.specs.Reading.{OfInput}
 use Rattle.abc_file_types.specs.Files.{IsFile}

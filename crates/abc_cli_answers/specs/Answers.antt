@@ -1,4 +1,4 @@
--- Answers, and what a file is answered with before a command is asked.
+-- Answers, and what a file is answered with before a command is asked (profile: docs/PROGRAM.md, "Statuses").
 use Rattle.std.specs.Prelude.{◌≡◌, ℕ, List, []}
 use Rattle.std.specs.declared.option.Option.{Option}
 use Rattle.abc_base.specs.declared.status.Status.{Status}

@@ -1,4 +1,4 @@
--- The code of the generated file.
+-- The code of the generated file (profile: docs/PROGRAM.md, "Words"; said in full here alone).
 use Rattle.std.specs.Prelude.{ℕ, ℤ, ◌+◌, ◌%◌, pos, nat_eq, if◌then◌else◌, List, [], ◌∷◌, ◌++◌}
 use Rattle.std.specs.List.{flat_map, range_with_len}
 use Rattle.abc_file_types.specs.declared.code.Instr.{Instr}

@@ -1,4 +1,4 @@
--- The commands and their options.
+-- The commands and their options (profile: docs/PROGRAM.md, "Words").
 use Rattle.std.specs.Prelude.{ℕ, List, [], ◌∷◌, codes}
 use Rattle.abc_cli_answers.specs.declared.command.Command.{Command}
 use Rattle.abc_cli_answers.specs.declared.command.Command.TheVariants as commands

@@ -1,4 +1,4 @@
--- The numbers that the generator draws.
+-- The numbers that the generator draws (profile: docs/PROGRAM.md, "Words"; said in full here alone).
 use Rattle.std.specs.Prelude.{ℕ, suc, zero, ◌+◌, ◌*◌, ◌/◌, ◌%◌, ◌^◌}
 
 -- the generator's number after a draw

@@ -1,4 +1,4 @@
--- How a run ends: what the sinks got, and when a status but the defined one is answered.
+-- How a run ends: what the sinks got, and when a status but the defined one is answered (profile: docs/PROGRAM.md, "What each fault leaves").
 use Rattle.std.specs.Prelude.{◌≡◌, ◌≢◌, ◌⊎◌, ℕ, List, [], IsSome}
 use Rattle.std.specs.Io.KnownBytes.{append_known}
 use Rattle.std.specs.declared.option.Option.{Option}

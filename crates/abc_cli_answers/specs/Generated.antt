@@ -1,4 +1,4 @@
--- The file that is generated from a seed and a number of functions.
+-- The file that is generated from a seed and a number of functions (profile: docs/PROGRAM.md, "Words"; said in full here alone).
 use Rattle.std.specs.Prelude.{ℕ, ◌+◌, ◌*◌, ◌-◌, List, [], ◌∷◌, ◌++◌, false, codes, decimal, map}
 use Rattle.std.specs.List.{range_with_len}
 use Rattle.abc_file_types.specs.declared.classes.Script.{Script}

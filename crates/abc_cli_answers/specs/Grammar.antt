@@ -1,4 +1,4 @@
--- Which words are a command line, and what it says.
+-- Which words are a command line, and what it says (profile: docs/PROGRAM.md, "Words").
 use Rattle.std.specs.Prelude.{◌≡◌, ℕ, ◌+◌, ◌-◌, ◌*◌, ◌^◌, ◌<◌, ◌≤◌, List, [], ◌∷◌, ◌++◌, length, take, slice_index, codes, All}
 use Rattle.abc_cli_answers.specs.declared.command.Command.{Command}
 use Rattle.abc_cli_answers.specs.Commands.{Setting, word_of, settings_of}

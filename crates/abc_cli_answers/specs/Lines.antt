@@ -1,4 +1,4 @@
--- The lines that the program writes where its status is not 0.
+-- The lines that the program writes where its status is not 0 (profile: docs/PROGRAM.md, "Words" and "Statuses").
 use Rattle.std.specs.Prelude.{ℕ, List, [], ◌∷◌, ◌++◌, codes, decimal}
 use Rattle.abc_base.specs.Escapes.{escaped}
 use Rattle.abc_file_types.specs.Part.{Refusal, refusal}

@@ -1,4 +1,4 @@
--- The lines that are written on a file once it was run.
+-- The lines that are written on a file once it was run (profile: docs/PROGRAM.md, "Words").
 use Rattle.std.specs.Prelude.{ℕ, ◌+◌, List, [], ◌∷◌, ◌++◌, codes, decimal, length}
 use Rattle.abc_file_types.specs.declared.code.Body.{Body}
 use Rattle.abc_file_types.specs.declared.tables.Abc.{Abc}

@@ -12,5 +12,6 @@ abbrev pub behind_name : Option Form → List ℕ
 behind_name (Some forms.Plain) = 0x0a ∷ []
 behind_name _ = 0x20 ∷ []
 
+-- what the line of an opcode begins with: the instruction's name, and a space or the line's end
 unfoldable pub head : ℕ → List ℕ
 head op = word_name (words.Instruction op) ++ behind_name (form_at op)

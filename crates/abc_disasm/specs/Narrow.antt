@@ -56,5 +56,6 @@ module _ (v : Abc) where
       flat_map (int_text v) v.ints ++ (flat_map (uint_text v) v.uints ++ (flat_map (double_text v) v.doubles ++ (flat_map (string_text v) v.strings
       ++ (flat_map (namespace_text v) v.namespaces ++ (flat_map (set_text v) v.sets ++ flat_map narrow_name v.names)))))
 
+  -- the whole narrow text of a file
   unfoldable pub narrow_listing : List ℕ
   narrow_listing = version_text ++ (narrow_pools ++ (definitions_text v ++ flat_map narrow_body v.bodies))

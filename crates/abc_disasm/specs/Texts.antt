@@ -61,6 +61,7 @@ instr_targets _ = []
 abbrev pub handler_targets : Handler → List ℕ
 handler_targets h = h.from ∷ h.to ∷ h.target ∷ []
 
+-- the numbers of instructions that the code and the handlers of a body name: these get labels
 abbrev pub body_targets : Body → List ℕ
 body_targets b = flat_map instr_targets b.code ++ flat_map handler_targets b.handlers
 
@@ -140,6 +141,7 @@ module _ (v : Abc) where
   abbrev pub script_text : Script → List ℕ
   script_text s = number_line (codes "script") s.init ++ flat_map trait_text s.traits
 
+  -- the line of an instruction
   abbrev pub instr_text : Instr → List ℕ
   instr_text i = line_bytes v (words.Instruction (opcode_of i)) ((instruction_line (opcode_of i)).items i)
 
@@ -155,6 +157,7 @@ module _ (v : Abc) where
   body_head_text b =
       line_bytes v words.Body ((body_line (sizes_of v)).items (record { method = b.method; max_stack = b.max_stack; local_count = b.local_count; init_scope = b.init_scope; max_scope = b.max_scope }))
 
+  -- all lines of a body: its own, and those of its code, its handlers and its traits
   abbrev pub whole_body : Body → List ℕ
   whole_body b = body_head_text b ++ (code_text (body_targets b) 0 b.code ++ (flat_map handler_text b.handlers ++ flat_map trait_text b.traits))
 

@@ -1,4 +1,4 @@
--- What reading a whole file answers.
+-- What reading a whole file answers (profile: docs/THEOREMS.md, "Files").
 use Rattle.std.specs.Prelude.{◌≡◌, ◌≢◌, List, ℕ, [], drop, Some, None, Ok, Err}
 use Rattle.std.specs.declared.result.Result.{Result}
 use Rattle.std.specs.declared.option.Option.{Option}
@@ -51,6 +51,7 @@ IsTrailing w s w2 s2 errors.NoMemory = ⊥
 abbrev pub Writes : (Abc → List ℕ) → List ℕ → List ℕ → Type 0
 Writes write bytes input = (v : Abc) × IsFile v input × (bytes ≡ write v)
 
+-- The bytes are what `write` makes of the file that the input spells. The input is `left`, where the source tells it, or else some input.
 abbrev pub IsWrittenOf : (Abc → List ℕ) → Option (List ℕ) → List ℕ → Type 0
 IsWrittenOf write left bytes = OfInput left (Writes write bytes)
 
@@ -64,6 +65,7 @@ Refuses (errors.Refused place reason) input = IsBadFile input (refusal place rea
 Refuses errors.ReadFault input = Unit {0}
 Refuses errors.NoMemory input = Unit {0}
 
+-- The error, if it is a refusal, is the first fault of the input. The input is `left`, where the source tells it, or else some input.
 abbrev pub IsFaultOf : Option (List ℕ) → ReadError → Type 0
 IsFaultOf left e = OfInput left (Refuses e)
 

@@ -1,4 +1,4 @@
--- Method bodies: their sizes, code, exceptions and traits.
+-- Method bodies: their sizes, code, exceptions and traits (Overview, chapter 4, "Method body" and "Exception"; profile: docs/FORMAT.md).
 use Rattle.std.specs.Prelude.{ℕ, ◌≤◌, List, [], ◌++◌, All, length, map, not, nat_eq, get_or}
 use Rattle.std.specs.List.{list_any}
 use Rattle.abc_base.specs.Numbers.{number_bytes}
@@ -30,6 +30,7 @@ handler v starts =
     image handler_in
     (both (instruction_place starts) (both (instruction_place starts) (both (instruction_place starts) (both (pool_index v.names) (pool_index v.names)))))
 
+-- the canonical bytes of a handler, in code whose instructions start so
 unfoldable pub handler_bytes : List ℕ → Handler → List ℕ
 handler_bytes starts h =
     number_bytes (get_or starts h.from 0) ++ number_bytes (get_or starts h.to 0) ++ number_bytes (get_or starts h.target 0) ++ number_bytes h.exc_type
@@ -69,6 +70,7 @@ body_with = body_of code
 unfoldable pub body : Sizes → List ℕ → Part (Body × List ℕ)
 body v taken = body_with v (body_method v taken)
 
+-- the canonical bytes of a body
 unfoldable pub body_bytes : Body → List ℕ
 body_bytes b =
     number_bytes b.method ++ number_bytes b.max_stack ++ number_bytes b.local_count ++ number_bytes b.init_scope ++ number_bytes b.max_scope
@@ -81,6 +83,7 @@ methods_of read = map (λ x. x.0.method) read
 abbrev pub body_list_of : (List ℕ → Part (Body × List ℕ)) → Part (List (Body × List ℕ))
 body_list_of body = image (λ x. x.1) (then_by u30 (λ n. chain n (λ before. body (methods_of before)) []))
 
+-- a count and that many bodies, each of another method, and each with the starts of its instructions as they were read
 unfoldable pub body_list : Sizes → Part (List (Body × List ℕ))
 body_list v = body_list_of (body v)
 
@@ -88,9 +91,11 @@ body_list v = body_list_of (body v)
 abbrev pub bodies_of : Part (List (Body × List ℕ)) → Abc → Part (Abc × List (List ℕ))
 bodies_of list abc = image (λ xs. (record abc { bodies = map (λ x. x.0) xs }, map (λ x. x.1) xs)) list
 
+-- the value with its bodies, and the starts of each body's instructions as they were read; the rest of the value is given
 unfoldable pub bodies : Abc → Part (Abc × List (List ℕ))
 bodies abc = bodies_of (body_list (sizes_of abc)) abc
 
+-- the canonical bytes of all bodies: their count, and those of each
 unfoldable pub bodies_bytes : Abc → List ℕ
 bodies_bytes v = counted_bytes body_bytes v.bodies
 

@@ -1,4 +1,4 @@
--- The canonical bytes of each value: its shortest spelling.
+-- The canonical bytes of each value: its shortest spelling (profile: docs/FORMAT.md, "Canonical bytes").
 use Rattle.std.specs.Prelude.{◌≡◌, ℤ, pos, negsuc, ◌≤ℤ◌, ◌<ℤ◌, ◌-◌, ◌+◌, ◌^◌, ℕ, suc, ◌%◌, ◌/◌, ◌≤◌, List, [], ◌∷◌, ◌++◌, length}
 use Rattle.std.specs.Int.{w32, cast_unsigned}
 use Rattle.std.specs.List.{flat_map}
@@ -38,9 +38,11 @@ abbrev pub low24 : ℤ → ℕ
 low24 (pos n) = n
 low24 (negsuc n) = 2 ^ 24 - suc n
 
+-- 24 bits in two's complement, as three bytes, the low one first
 unfoldable pub s24_bytes : ℤ → List ℕ
 s24_bytes z = low24 z % 256 ∷ low24 z / 256 % 256 ∷ low24 z / 65536 ∷ []
 
+-- the number is one of 24 bits in two's complement: from -2^23 to 2^23 - 1
 abbrev pub FitsS24 : ℤ → Type 0
 FitsS24 z = (negsuc 8388607 ≤ℤ z) × (z <ℤ pos 8388608)
 
@@ -57,5 +59,6 @@ abbrev pub pool_count : {A : Type 0} → List A → ℕ
 pool_count [] = 0
 pool_count (x ∷ xs) = length xs + 2
 
+-- the count of a pool, and its entries
 unfoldable pub pool_bytes : {A : Type 0} → (A → List ℕ) → List A → List ℕ
 pool_bytes f xs = number_bytes (pool_count xs) ++ flat_map f xs

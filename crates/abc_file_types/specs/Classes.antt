@@ -1,4 +1,5 @@
--- Instances, classes and scripts, and all definitions in their order.
+-- Instances, classes and scripts, and all definitions in their order
+-- (Overview, chapter 4, "Instance", "Class" and "Script"; profile: docs/FORMAT.md).
 use Rattle.std.specs.Prelude.{ℕ, List, [], ◌∷◌, ◌++◌, length, Some, None}
 use Rattle.std.specs.declared.option.Option.{Option}
 use Rattle.std.specs.List.{flat_map}
@@ -26,6 +27,7 @@ abbrev pub instance_in : ℕ × (ℕ × (ℕ × (Option ℕ × (List ℕ × (ℕ
 instance_in (name, (super_name, (flags, (protected_ns, (interfaces, (iinit, traits)))))) =
     record { name = name; super_name = super_name; flags = flags; protected_ns = protected_ns; interfaces = interfaces; iinit = iinit; traits = traits }
 
+-- a name, a base, flags, a protected namespace where flag 08 is set, interfaces, an initializer and traits
 unfoldable pub instance : Sizes → Part Instance
 instance v =
     image instance_in
@@ -42,12 +44,14 @@ instance_bytes i =
     number_bytes i.name ++ number_bytes i.super_name ++ i.flags ∷ [] ++ protected_bytes i.protected_ns ++ counted_bytes number_bytes i.interfaces
     ++ number_bytes i.iinit ++ counted_bytes trait_bytes i.traits
 
+-- the initializer of a class, and the traits of the class itself
 unfoldable pub class_info : Sizes → Part ClassInfo
 class_info v = image (λ x. record { cinit = x.0; traits = x.1 }) (both (index_below v.methods) (counted (trait_info v)))
 
 unfoldable pub class_bytes : ClassInfo → List ℕ
 class_bytes c = number_bytes c.cinit ++ counted_bytes trait_bytes c.traits
 
+-- the initializer of a script, and its traits
 unfoldable pub script : Sizes → Part Script
 script v = image (λ x. record { init = x.0; traits = x.1 }) (both (index_below v.methods) (counted (trait_info v)))
 
@@ -71,6 +75,7 @@ sizes_with abc methods metadata classes = record {
   classes = classes;
 }
 
+-- how many entries each table of a file has
 abbrev pub sizes_of : Abc → Sizes
 sizes_of abc = sizes_with abc (length abc.methods) (length abc.metadata) (length abc.classes)
 
@@ -88,6 +93,7 @@ definitions abc =
     then_by u30 (λ classes. let v = sizes_with abc (length methods) (length metadata) classes in
     both (times classes (instance v)) (both (times classes (class_info v)) (counted (script v)))))))
 
+-- the canonical bytes of all definitions; the count of classes stands once, before the instances
 unfoldable pub definitions_bytes : Abc → List ℕ
 definitions_bytes v =
     counted_bytes method_bytes v.methods ++ counted_bytes metadata_bytes v.metadata ++ number_bytes (length v.classes) ++ flat_map instance_bytes v.instances

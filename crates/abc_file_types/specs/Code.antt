@@ -1,5 +1,5 @@
--- Which bytes spell which code: a concatenation of pieces, each of which spells one instruction, with its targets as
--- sums of the lengths of pieces; and which first fault refuses them.
+-- Which bytes spell which code: a concatenation of pieces, each of which spells one instruction, with its targets as sums of the lengths of pieces;
+-- and which first fault refuses them (Overview, chapter 5; profile: docs/FORMAT.md, "Code" and "What is refused").
 use Rattle.std.specs.Prelude.{◌≡◌, ℕ, suc, ℤ, pos, ◌+ℤ◌, ◌+◌, ◌-◌, ◌*◌, ◌≤◌, ◌⊎◌, List, [], ◌∷◌, length}
 use Rattle.abc_file_types.specs.declared.reason.Reason.TheVariants as reasons
 use Rattle.abc_file_types.specs.Part.{Part, Refusal, refusal, At, Front, image, then_by, refined}
@@ -93,6 +93,7 @@ code_body n = code_body_of instruction (pieces n) n
 abbrev pub code_of : (ℕ → Part Code) → Part Code
 code_of body = image (λ x. x.1) (then_by code_length body)
 
+-- the code of a body: its length in bytes, and its instructions with their starts
 unfoldable pub code : Part Code
 code = code_of code_body
 

@@ -1,4 +1,4 @@
--- The canonical bytes of code: the fewest for each operand, and offsets that count them.
+-- The canonical bytes of code: the fewest for each operand, and offsets that count them (profile: docs/FORMAT.md, "Canonical bytes").
 use Rattle.std.specs.Prelude.{ℕ, ℤ, pos, ◌-ℤ◌, ◌+◌, ◌-◌, ◌*◌, List, [], ◌∷◌, ◌++◌, length, get_or}
 use Rattle.std.specs.Int.{w8, w16, cast_unsigned}
 use Rattle.std.specs.List.{flat_map}
@@ -10,6 +10,7 @@ use Rattle.abc_file_types.specs.Starts.{starts, size}
 
 -- ---- how many
 
+-- how many canonical bytes a number has
 abbrev pub number_len : ℕ → ℕ
 number_len n = length (number_bytes n)
 
@@ -25,6 +26,7 @@ instr_len (instrs.Short z) = 1 + number_len (cast_unsigned w16 z)
 instr_len (instrs.ScopeObject x) = 1 + 1
 instr_len (instrs.Debug kind name reg extra) = 1 + 1 + number_len name + 1 + number_len extra
 
+-- each instruction with the number of its canonical bytes
 abbrev pub sized : List Instr → List (Instr × ℕ)
 sized [] = []
 sized (i ∷ is) = (i, instr_len i) ∷ sized is

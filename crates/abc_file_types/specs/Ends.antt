@@ -1,4 +1,4 @@
--- Parts within an end, as code within its length.
+-- Parts within an end, as code within its length (a tool of other definitions; profile: docs/FORMAT.md, "What is refused", for CodeEnds).
 use Rattle.std.specs.Prelude.{◌≡◌, ℕ, zero, suc, ◌+◌, ◌-◌, ◌<◌, ◌≤◌, min, Bool, true, false, List, [], ◌∷◌, ◌++◌, length, Ok, Err, if◌then◌else◌}
 use Rattle.std.specs.declared.result.Result.{Result}
 use Rattle.abc_file_types.specs.declared.reason.Reason.{Reason}

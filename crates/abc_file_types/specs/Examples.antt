@@ -67,6 +67,7 @@ no_string_file = record empty { names = names.QName false 0 1 ∷ [] }
 
 -- ---- files and their canonical bytes
 
+-- Which file some bytes spell, and which bytes are a file's canonical ones.
 pub record SpelledExamples : Type 0 where
   -- all tables are empty; the count 1 of a pool means none, as 0 does
   pub empty_file : IsFile empty (head ++ zeros 12)
@@ -95,6 +96,7 @@ pub record SpelledExamples : Type 0 where
 
 -- ---- what is refused: at least one example of each reason
 
+-- Inputs, each with the place and the reason of its first fault.
 pub record RefusedExamples : Type 0 where
   -- a byte is needed and the input has ended
   pub nothing : IsBadFile [] (refusal 0 reasons.Short)

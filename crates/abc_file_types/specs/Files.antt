@@ -1,4 +1,4 @@
--- The whole file.
+-- The whole file (Overview, chapter 4, "abcFile"; profile: docs/FORMAT.md).
 use Rattle.std.specs.Prelude.{◌≡◌, ◌≢◌, ◌≤◌, ◌⊎◌, ℕ, List, [], ◌++◌, length, nat_eq}
 use Rattle.abc_file_types.specs.declared.reason.Reason.TheVariants as reasons
 use Rattle.abc_file_types.specs.Part.{Part, At, at, limit, Refusal, refusal, Begins, then_by, both, image, checked}
@@ -24,6 +24,7 @@ last_of (version, (pools, (definitions, all))) = all
 abbrev pub file_of : Part Abc → (Abc → Part Abc) → Part Abc
 file_of pools bodies = image last_of (both version (then_by pools (λ abc. then_by (definitions abc) (λ full. bodies full))))
 
+-- the whole file: the version, the pools, the definitions and the bodies
 unfoldable pub file : Part Abc
 file = file_of pools bodies_alone
 
@@ -31,6 +32,7 @@ file = file_of pools bodies_alone
 unfoldable pub file_read : Part (Abc × List (List ℕ))
 file_read = image last_of (both version (then_by pools (λ abc. then_by (definitions abc) (λ full. bodies full))))
 
+-- the canonical bytes of a file
 unfoldable pub file_bytes : Abc → List ℕ
 file_bytes v = version_bytes ++ pools_bytes v ++ definitions_bytes v ++ bodies_bytes v
 

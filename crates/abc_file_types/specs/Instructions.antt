@@ -1,4 +1,4 @@
--- The parts of code: an instruction as it is spelled, with its offsets in bytes.
+-- The parts of code: an instruction as it is spelled, with its offsets in bytes (Overview, chapter 5; profile: docs/FORMAT.md, "Code").
 use Rattle.std.specs.Prelude.{ℕ, ℤ, ◌+◌, ◌%◌, ◌^◌, Bool, true, unwrap_or, List, nat_lt}
 use Rattle.std.specs.Int.{w8, w16, cast_signed}
 use Rattle.abc_file_types.specs.declared.reason.Reason.TheVariants as reasons
@@ -55,6 +55,7 @@ operands op forms.Debug = image debug_in (both u8 (both u30 (both u8 u30)))
 abbrev pub instruction_of : Part (ℕ × Form) → Part RawInstr
 instruction_of opcode = image (λ x. x.1) (then_by opcode (λ o. operands o.0 o.1))
 
+-- an instruction as it is spelled: its opcode and its operands
 unfoldable pub instruction : Part RawInstr
 instruction = instruction_of opcode
 
@@ -62,8 +63,10 @@ instruction = instruction_of opcode
 abbrev pub pieces_of : Part RawInstr → ℕ → Part (List (RawInstr × ℕ))
 pieces_of instruction n = fill n n (blamed instruction)
 
+-- the instructions that fill n bytes, each with how many bytes spell it
 unfoldable pub pieces : ℕ → Part (List (RawInstr × ℕ))
 pieces = pieces_of instruction
 
+-- how many bytes of code a body has: fewer than 2^23
 unfoldable pub code_length : Part ℕ
 code_length = checked (λ n. nat_lt n (2 ^ 23)) reasons.CodeLength u30

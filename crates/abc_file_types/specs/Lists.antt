@@ -1,4 +1,5 @@
--- Parts that are lists of parts.
+-- Parts that are lists of parts
+-- (a tool of other definitions; Overview, chapter 4, "Constant pool", and profile: docs/FORMAT.md, for pools and texts).
 use Rattle.std.specs.Prelude.{ℕ, zero, suc, ◌-◌, List, [], ◌∷◌, ◌++◌}
 use Rattle.abc_file_types.specs.Part.{Part, done, then_by, both, image}
 use Rattle.abc_file_types.specs.Numbers.{u30, u8}

@@ -1,4 +1,5 @@
--- Methods with their optional values, and metadata.
+-- Methods with their optional values, and metadata
+-- (Overview, chapter 4, "Method signature", "Optional parameters" and "Metadata"; profile: docs/FORMAT.md).
 use Rattle.std.specs.Prelude.{ℕ, ◌*◌, ◌/◌, List, [], ◌∷◌, ◌++◌, length, Bool, true, nat_eq, nat_le, not, ◌||◌, bit_and, if◌then◌else◌}
 use Rattle.std.specs.List.{flat_map}
 use Rattle.abc_base.specs.Numbers.{number_bytes}
@@ -85,6 +86,7 @@ has_value v n kinds.StaticProtected = nat_le n v.namespaces
 unfoldable pub option_value : Sizes → Part OptionValue
 option_value v = image (λ x. record { kind = x.1; value = x.0 }) (checked (λ x. has_value v x.0 x.1) reasons.Index (both u30 value_kind))
 
+-- the canonical bytes of an optional value: its index, and then the byte of its kind
 unfoldable pub option_bytes : OptionValue → List ℕ
 option_bytes o = number_bytes o.value ++ value_code o.kind ∷ []
 
@@ -99,6 +101,8 @@ abbrev pub method_in : ℕ × (ℕ × (List ℕ × (ℕ × (ℕ × (List OptionV
 method_in (count, (ret, (params, (name, (flags, (options, param_names)))))) =
     record { ret = ret; params = params; name = name; flags = flags; options = options; param_names = param_names }
 
+-- a count of parameters, the return type, the types of the parameters, a name and flags;
+-- then optional values where flag 08 is set, and the names of the parameters where flag 80 is
 unfoldable pub method : Sizes → Part Method
 method v =
     image method_in

@@ -1,4 +1,4 @@
--- Bytes and numbers as parts.
+-- Bytes and numbers as parts (Overview, chapter 4; profile: docs/FORMAT.md, "Numbers" and "Ranges of indices").
 use Rattle.std.specs.Int.{w32, cast_signed}
 use Rattle.std.specs.Prelude.{ℤ, ◌≡◌, ℕ, zero, suc, ◌+◌, ◌*◌, ◌%◌, ◌^◌, ◌<◌, ◌≤◌, ◌⊎◌, ◌&&◌, List, [], ◌∷◌, length, Ok, Err, nat_lt, nat_le, if◌then◌else◌}
 use Rattle.std.specs.declared.result.Result.{Result}
@@ -27,6 +27,7 @@ byte = record {
   reads = λ from. byte_at from.end from.place from.bytes;
 }
 
+-- one byte
 unfoldable pub u8 : Part ℕ
 u8 = byte
 
@@ -53,9 +54,11 @@ number = record {
   reads = λ from. groups 5 from.place from;
 }
 
+-- a number of one to five bytes, which is below 2^30
 unfoldable pub u30 : Part ℕ
 u30 = checked (λ x. nat_lt x (2 ^ 30)) reasons.BigNumber number
 
+-- a number of one to five bytes, of which the low 32 bits count
 unfoldable pub u32 : Part ℕ
 u32 = image (λ x. x % 2 ^ 32) number
 
@@ -65,6 +68,7 @@ s32 = image (λ x. cast_signed w32 (x % 2 ^ 32)) number
 
 -- ---- numbers of a fixed length, the low byte first
 
+-- two bytes, the low one first
 unfoldable pub u16 : Part ℕ
 u16 = image (λ x. x.0 % 256 + 256 * (x.1 % 256)) (both u8 u8)
 

@@ -1,4 +1,5 @@
--- The instructions by their opcodes: their names, what follows the opcode, and the pool that an operand names.
+-- The instructions by their opcodes: their names, what follows the opcode, and the pool that an operand names
+-- (Overview, chapter 5; profile: docs/FORMAT.md, "Code").
 use Rattle.std.specs.Prelude.{ℕ, Bool, true, false, not, is_some, ◌||◌, ◌&&◌, List, [], ◌∷◌, Some, None, codes, nat_eq, if◌then◌else◌}
 use Rattle.std.specs.declared.option.Option.{Option}
 use Rattle.abc_file_types.specs.declared.opcodes.Form.{Form}
@@ -58,6 +59,7 @@ two_operands = op.HASNEXT2 ∷ op.CALLMETHOD ∷ op.CALLSTATIC ∷ op.CALLSUPER 
 abbrev pub branches : List ℕ
 branches = op.IFNLT ∷ op.IFNLE ∷ op.IFNGT ∷ op.IFNGE ∷ op.JUMP ∷ op.IFTRUE ∷ op.IFFALSE ∷ op.IFEQ ∷ op.IFNE ∷ op.IFLT ∷ op.IFLE ∷ op.IFGT ∷ op.IFGE ∷ op.IFSTRICTEQ ∷ op.IFSTRICTNE ∷ []
 
+-- the opcode is one of these
 abbrev pub is_in : ℕ → List ℕ → Bool
 is_in op [] = false
 is_in op (x ∷ xs) = nat_eq op x || is_in op xs
@@ -116,6 +118,7 @@ abbrev pub form_in : Option OpInfo → Option Form
 form_in (Some info) = Some info.form
 form_in None = None
 
+-- what follows the opcode, if some instruction has it
 unfoldable pub form_at : ℕ → Option Form
 form_at op = form_in (info_at op)
 

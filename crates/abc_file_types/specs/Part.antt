@@ -1,4 +1,5 @@
--- Parts of a format: which bytes spell a value, which first fault refuses them, and how they are read.
+-- Parts of a format: which bytes spell a value, which first fault refuses them, and how they are read
+-- (a tool of other definitions; profile: docs/FORMAT.md, "What is refused", for first faults).
 use Rattle.std.specs.Prelude.{◌≡◌, ℕ, ◌+◌, ◌^◌, ◌<◌, ◌≤◌, ◌⊎◌, Bool, true, false, List, [], ◌++◌, length, Ok, Err, if◌then◌else◌}
 use Rattle.std.specs.declared.result.Result.{Result}
 use Rattle.abc_file_types.specs.declared.reason.Reason.{Reason}

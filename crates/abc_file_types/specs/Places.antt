@@ -1,4 +1,4 @@
--- Places in code that other parts name, as exceptions do.
+-- Places in code that other parts name, as exceptions do (Overview, chapter 4, "Exception"; profile: docs/FORMAT.md, "Method bodies").
 use Rattle.std.specs.Prelude.{ℕ, is_some, unwrap_or, nat_eq, List}
 use Rattle.std.specs.List.{position}
 use Rattle.abc_file_types.specs.declared.reason.Reason.TheVariants as reasons

@@ -1,4 +1,5 @@
--- The constant pools: numbers, texts, namespaces, sets of namespaces and multinames.
+-- The constant pools: numbers, texts, namespaces, sets of namespaces and multinames
+-- (Overview, chapter 4, "Constant pool", "Namespace" and "Multiname"; profile: docs/FORMAT.md).
 use Rattle.std.specs.Prelude.{ℕ, ℤ, List, [], ◌∷◌, ◌++◌, length, Bool, true, false, nat_eq, ◌||◌, ◌&&◌, if◌then◌else◌}
 use Rattle.abc_base.specs.Numbers.{number_bytes}
 use Rattle.abc_file_types.specs.declared.reason.Reason.TheVariants as reasons
@@ -119,6 +120,7 @@ multiname_fields strings spaces sets all kinds.TypeName = image (λ x. names.Typ
 abbrev pub multiname_of : Part MultinameKind → ℕ → ℕ → ℕ → ℕ → Part Multiname
 multiname_of kind strings spaces sets all = image (λ x. x.1) (then_by kind (multiname_fields strings spaces sets all))
 
+-- a multiname, where there are so many strings, namespaces, sets and multinames: its kind byte, and the fields of the kind
 unfoldable pub multiname : ℕ → ℕ → ℕ → ℕ → Part Multiname
 multiname = multiname_of multiname_kind
 
@@ -126,6 +128,7 @@ multiname = multiname_of multiname_kind
 unfoldable pub multinames : ℕ → ℕ → ℕ → Part (List Multiname)
 multinames strings spaces sets = pool_by (multiname strings spaces sets)
 
+-- the canonical bytes of a multiname: its kind byte, and its fields
 abbrev pub multiname_bytes : Multiname → List ℕ
 multiname_bytes (names.QName attr n i) = multiname_code (kinds.QName attr) ∷ (number_bytes n ++ number_bytes i)
 multiname_bytes (names.Rt attr i) = multiname_code (kinds.Rt attr) ∷ number_bytes i
@@ -179,9 +182,11 @@ pools_of multinames =
     then_by (pool (namespace_set (length spaces))) (λ sets.
     multinames (length strings) (length spaces) (length sets))))))))
 
+-- all pools, as a value whose other tables are empty
 unfoldable pub pools : Part Abc
 pools = pools_of multinames
 
+-- the canonical bytes of all pools of a file
 unfoldable pub pools_bytes : Abc → List ℕ
 pools_bytes v =
     pool_bytes s32_bytes v.ints ++ pool_bytes number_bytes v.uints ++ pool_bytes double_bytes v.doubles ++ pool_bytes text_bytes v.strings

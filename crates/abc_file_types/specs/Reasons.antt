@@ -1,8 +1,9 @@
--- The names of the reasons, as error lines show them.
+-- The names of the reasons, as error lines show them (profile: docs/FORMAT.md, "What is refused").
 use Rattle.std.specs.Prelude.{ℕ, List, codes}
 use Rattle.abc_file_types.specs.declared.reason.Reason.{Reason}
 use Rattle.abc_file_types.specs.declared.reason.Reason.TheVariants as reasons
 
+-- the name of a reason
 abbrev pub reason_name : Reason → List ℕ
 reason_name reasons.Short = codes "Short"
 reason_name reasons.Version = codes "Version"

@@ -1,4 +1,4 @@
--- Where the pieces of code start.
+-- Where the pieces of code start (a tool of other definitions).
 use Rattle.std.specs.Prelude.{◌≡◌, ℕ, suc, ◌+◌, ◌<◌, ◌≤◌, List, [], ◌∷◌, length, get_or, take}
 
 -- how many bytes the pieces have

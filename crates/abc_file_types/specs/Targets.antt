@@ -1,4 +1,4 @@
--- From offsets in bytes to numbers of instructions, by a search among the starts.
+-- From offsets in bytes to numbers of instructions, by a search among the starts (Overview, chapter 5; profile: docs/FORMAT.md, "Code").
 use Rattle.std.specs.Prelude.{ℕ, suc, ℤ, pos, negsuc, ◌+ℤ◌, ◌+◌, ◌-◌, ◌*◌, Some, None, List, [], ◌∷◌, length, nat_eq, Ok, Err}
 use Rattle.std.specs.declared.option.Option.{Option}
 use Rattle.std.specs.declared.result.Result.{Result}

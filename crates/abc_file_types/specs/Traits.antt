@@ -1,4 +1,4 @@
--- Traits.
+-- Traits (Overview, chapter 4, "Trait"; profile: docs/FORMAT.md).
 use Rattle.std.specs.Prelude.{ℕ, ◌+◌, ◌*◌, ◌%◌, ◌/◌, List, [], ◌∷◌, ◌++◌, true, false, nat_eq, nat_le, not, Some, None, if◌then◌else◌}
 use Rattle.std.specs.declared.option.Option.{Option}
 use Rattle.abc_base.specs.Numbers.{number_bytes}
@@ -54,6 +54,7 @@ slot_value v =
     image (λ x. slot_value_of x.0 x.1)
     (checked (λ x. has_value v x.0 x.1) reasons.Index (then_by u30 (λ n. when (not (nat_eq n 0)) kinds.Undefined value_kind)))
 
+-- the canonical bytes of a slot's value: the index 0 where there is none, else its index and the byte of its kind
 abbrev pub slot_value_bytes : Option OptionValue → List ℕ
 slot_value_bytes None = number_bytes 0
 slot_value_bytes (Some o) = option_bytes o
@@ -90,6 +91,7 @@ trait_fields_bytes (bodies.Function id method) = number_bytes id ++ number_bytes
 abbrev pub trait_in : ℕ × ((TraitKind × ℕ) × (TraitBody × List ℕ)) → TraitInfo
 trait_in (name, ((kind, attrs), (body, metadata))) = record { name = name; attrs = attrs; body = body; metadata = metadata }
 
+-- a name, a kind byte with the attributes, the fields of the kind, and metadata where the attribute 4 is set
 unfoldable pub trait_info : Sizes → Part TraitInfo
 trait_info v =
     image trait_in

@@ -1,4 +1,4 @@
--- The frames of a run, of which all contracts speak.
+-- The frames of a run, of which all contracts speak (Overview, chapters 2 and 3; profile: docs/MACHINE.md, "Frames").
 use Rattle.std.specs.Prelude.{ℕ, ◌+◌, ◌≤◌, List, [], ◌∷◌, ◌++◌, length, take, drop, set, reverse, replicate, Option, None, Result, Ok, Err, nat_le, if◌then◌else◌}
 use Rattle.abc_heap_values.specs.declared.values.Value.{Value}
 use Rattle.abc_heap_values.specs.declared.values.Value.TheVariants.{Undefined}

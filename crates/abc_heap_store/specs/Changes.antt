@@ -1,4 +1,4 @@
--- What the calls change: one object, or what is made at the end.
+-- What the calls change: one object, or what is made at the end (profile: docs/MACHINE.md, "Heap and room").
 use Rattle.std.specs.Prelude.{◌≡◌, ℕ, zero, suc, ◌+◌, false, List, [], ◌∷◌, ◌++◌, length, set, Option, Some, None}
 use Rattle.abc_heap_values.specs.declared.values.Span.{Span}
 use Rattle.abc_heap_values.specs.declared.values.ObjId.{ObjId}

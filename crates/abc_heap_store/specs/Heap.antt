@@ -1,4 +1,4 @@
--- The heap of records, of which all contracts speak, and its ledger.
+-- The heap of records, of which all contracts speak, and its ledger (profile: docs/MACHINE.md, "Heap and room").
 use Rattle.std.specs.Prelude.{◌≡◌, ℕ, zero, suc, ◌+◌, ◌<◌, ◌≤◌, List, [], ◌∷◌, length, Option, None}
 use Rattle.abc_heap_values.specs.declared.values.Span.{Span}
 use Rattle.abc_heap_values.specs.declared.values.ObjId.{ObjId}

@@ -1,4 +1,4 @@
--- An object's own properties: the search by text, a write, a delete, and the walk by positions.
+-- An object's own properties: the search by text, a write, a delete, and the walk by positions (profile: docs/MACHINE.md, "Heap and room").
 use Rattle.std.specs.Prelude.{ℕ, zero, suc, ◌+◌, Bool, false, List, [], ◌∷◌, ◌++◌, length, drop, set, Option, Some, None, slice_get, bytes_eq, ℤ, pos, negsuc, nat_lt, if◌then◌else◌}
 use Rattle.abc_heap_values.specs.declared.values.Span.{Span}
 use Rattle.abc_heap_values.specs.declared.values.Value.{Value}

@@ -1,4 +1,4 @@
--- The nodes of a captured scope stack: each names the one below it.
+-- The nodes of a captured scope stack: each names the one below it (profile: docs/MACHINE.md, "Heap and room").
 use Rattle.std.specs.Prelude.{ℕ, ◌+◌, List, [], ◌∷◌, Option, Some}
 use Rattle.abc_heap_store.specs.declared.records.ScopeId.{ScopeId}
 use Rattle.abc_heap_store.specs.declared.records.ScopeEntry.{ScopeEntry}

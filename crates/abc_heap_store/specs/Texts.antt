@@ -1,4 +1,4 @@
--- Texts, as spans.
+-- Texts, as spans (profile: docs/MACHINE.md, "Heap and room").
 use Rattle.std.specs.Prelude.{◌≡◌, ℕ, zero, suc, ◌+◌, ◌≤◌, List, [], ◌++◌, length, take, drop, get_or}
 use Rattle.abc_heap_values.specs.declared.values.Span.{Span}
 use Rattle.abc_heap_store.specs.Heap.{Heap}

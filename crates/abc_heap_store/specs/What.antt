@@ -1,4 +1,4 @@
--- What an object is.
+-- What an object is (profile: docs/MACHINE.md, "Heap and room").
 use Rattle.std.specs.Prelude.{Bool, true, false, Some, None}
 use Rattle.abc_heap_values.specs.declared.chain.Chain.{Chain}
 use Rattle.abc_heap_store.specs.declared.records.What.{What}

@@ -1,4 +1,4 @@
--- Equality of values.
+-- Equality of values (Overview, chapter 5; profile: docs/MACHINE.md, "Values, conversions and operations").
 use Rattle.std.specs.Prelude.{ℕ, ℤ, List, Bool, false, not, if◌then◌else◌, nat_eq, Ok, Err}
 use Rattle.std.specs.Ordering.{int_eq}
 use Rattle.std.specs.Str.{bytes_eq}

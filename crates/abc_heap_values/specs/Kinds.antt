@@ -1,4 +1,4 @@
--- What kind a value is of.
+-- What kind a value is of (a tool of other definitions).
 use Rattle.std.specs.Prelude.{Bool, true, false}
 use Rattle.abc_heap_values.specs.declared.values.Value.{Value}
 use Rattle.abc_heap_values.specs.declared.values.Value.TheVariants as values

@@ -1,4 +1,4 @@
--- Whole numbers modulo 2 ^ 32.
+-- Whole numbers modulo 2 ^ 32 (a tool of other definitions).
 use Rattle.std.specs.Prelude.{ℕ, ℤ, pos, ◌^◌, unsigned_abs}
 use Rattle.std.specs.Int.{int_rem_euclid, int_wrap, w32}
 

@@ -1,4 +1,4 @@
--- Values as numbers and truths.
+-- Values as numbers and truths (Overview, chapter 5; profile: docs/MACHINE.md, "Values, conversions and operations").
 use Rattle.std.specs.Prelude.{ℤ, pos, Bool, true, false, not, nat_eq, if◌then◌else◌, Ok, Err}
 use Rattle.std.specs.Ordering.{int_eq}
 use Rattle.std.specs.declared.result.Result.{Result}

@@ -1,4 +1,4 @@
--- What the operations give.
+-- What the operations give (Overview, chapter 5; profile: docs/MACHINE.md, "Values, conversions and operations").
 use Rattle.std.specs.Prelude.{ℤ, pos, Ok}
 use Rattle.std.specs.declared.result.Result.{Result}
 use Rattle.abc_base.specs.declared.names.Fault.{Fault}

@@ -1,4 +1,5 @@
--- The order of values: two texts by their bytes, all others by their numbers.
+-- The order of values: two texts by their bytes, all others by their numbers
+-- (Overview, chapter 5; profile: docs/MACHINE.md, "Values, conversions and operations").
 use Rattle.std.specs.Prelude.{ℕ, ℤ, int_lt, nat_lt, List, Bool, false, not, ◌&&◌, if◌then◌else◌, Ok, Err, Some, None}
 use Rattle.std.specs.List.{list_all}
 use Rattle.std.specs.Ordering.{is_lt, nat_cmp}

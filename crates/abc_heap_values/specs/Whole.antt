@@ -1,4 +1,5 @@
--- What is computed of whole numbers modulo 2 ^ 32. All results but that of the unsigned shift are signed.
+-- What is computed of whole numbers modulo 2 ^ 32. All results but that of the unsigned shift are signed
+-- (Overview, chapter 5; profile: docs/MACHINE.md, "Values, conversions and operations").
 use Rattle.std.specs.Prelude.{ℕ, ℤ, pos, ◌+ℤ◌, ◌-ℤ◌, ◌*ℤ◌, neg_ℤ, ◌/◌, ◌%◌, ◌^◌, bit_and, bit_or, bit_xor}
 use Rattle.std.specs.Int.{bit_not, cast_signed, int_shl, int_shr, w32}
 use Rattle.abc_heap_values.specs.Modular.{signed, unsigned}

@@ -107,6 +107,8 @@ pub record AreSmallStarts (n : ℕ) (ss : List ℕ) : Type 0 where
 
 -- ---- what reading n bytes leaves, where `says` tells what was read
 
+-- From w to w2 stood instructions xs of at most n bytes: `leaves` holds of them and the reading r, and `says` of what they are.
+-- Where there was an error, `says` holds of it.
 abbrev pub ReadsPieces : {T E : Type 0} → (Result (List (RawInstr × ℕ)) E → Type 0) → (List (Raw × ℕ) → Reading → Type 0) → ℕ → View → View → Reading → Result T E → Type 0
 ReadsPieces says leaves n w w2 r (Ok t) = (xs : List (Raw × ℕ)) × leaves xs r × AreRead n xs × (w.place + size_of xs ≡ w2.place) × says (Ok (raws_in xs))
 ReadsPieces says leaves n w w2 r (Err e) = says (Err e)

@@ -18,6 +18,7 @@ abbrev pub slots_from : ℕ → List TraitInfo → List ℕ
 slots_from n [] = []
 slots_from n (t ∷ ts) = n ∷ slots_from (if has_slot t.body then n + 1 else n) ts
 
+-- for each of some traits, how many of those before it have a slot
 abbrev pub slots_before : List TraitInfo → List ℕ
 slots_before ts = slots_from 0 ts
 
@@ -25,5 +26,6 @@ slots_before ts = slots_from 0 ts
 abbrev pub own_slots_before : Abc → List Part → List (List ℕ)
 own_slots_before v parts = map (λ (p : Part). slots_before (traits_of v p)) parts
 
+-- The table has for each own trait of each part how many of the traits before it there have a slot.
 pub record HasOwnSlots (v : Abc) (parts : List Part) (s : OwnSlots) : Type 0 where
   pub rows : s.rows ≡ own_slots_before v parts

@@ -21,6 +21,7 @@ abbrev pub owners_from : ℕ → List Script → List ℕ
 owners_from n [] = []
 owners_from n (s ∷ ss) = map (λ (t : TraitInfo). n) s.traits ++ owners_from (n + 1) ss
 
+-- for each trait of all scripts the index of the script that has it
 abbrev pub owners_of : Abc → List ℕ
 owners_of v = owners_from 0 v.scripts
 
@@ -32,6 +33,7 @@ script_traits v text = some_places (places_of (bytes_eq text) (trait_texts v (tr
 abbrev pub keys_of : Abc → List ℕ → List TraitInfo → List ℕ
 keys_of v numbers ts = map (λ (t : TraitInfo). get_or numbers (trait_name v t).string 0) ts
 
+-- The table has for each trait of all scripts its script, and for the number of each text the places of the traits of that name.
 pub record HasScripts (v : Abc) (t : Texts) (s : ScriptTraits) : Type 0 where
   pub owners : s.owners ≡ owners_of v
   pub grouped : GroupsTexts t v.strings s.groups (trait_strings v (traits_of_scripts v.scripts))

@@ -8,6 +8,7 @@ use Rattle.abc_link.specs.SetKeys.{HasSets}
 use Rattle.abc_link.specs.declared.tables.SearchTables.{SearchTables}
 use Rattle.abc_file_types.specs.declared.tables.Abc.{Abc}
 
+-- The tables are those of a file whose layouts are of these parts; `t` and `numbers` have the numbers of its texts.
 pub record AreSearchTables (v : Abc) (parts : List Part) (t : Texts) (numbers : List ℕ) (s : SearchTables) : Type 0 where
   pub slots : HasOwnSlots v parts s.slots
   pub scripts : HasScripts v t s.scripts

@@ -25,6 +25,7 @@ key_of_class v numbers (Some d) = key_of_space v numbers d.ns
 abbrev pub keys_of_classes : Abc → List ℕ → List NameKey
 keys_of_classes v numbers = map (λ i. key_of_class v numbers (class_name_of v i)) v.instances
 
+-- the first class whose name has a namespace equal to this one, if there is such a class
 abbrev pub spot_of_space : Abc → List ℕ → ℕ → Option ℕ
 spot_of_space v numbers a = first (keys_eq (key_of_space v numbers a)) (keys_of_classes v numbers)
 
@@ -32,6 +33,7 @@ spot_of_space v numbers a = first (keys_eq (key_of_space v numbers a)) (keys_of_
 abbrev pub firsts_of : List NameKey → List ℕ
 firsts_of keys = map (λ k. unwrap_or (first (keys_eq k) keys) 0) keys
 
+-- the first class whose name has a namespace equal to that of the class c
 abbrev pub spot_of_class : Abc → List ℕ → ℕ → ℕ
 spot_of_class v numbers c = get_or (firsts_of (keys_of_classes v numbers)) c 0
 
@@ -40,6 +42,7 @@ pub record HasSpots (v : Abc) (numbers : List ℕ) (found : Map NameKey) (t : Li
   pub len : length t ≡ n
   pub spots : (a : ℕ) → a < n → get_or t a None ≡ get keys_eq found (key_of_space v numbers a)
 
+-- The table finds the spot of each namespace by its key, and has the spots of all classes and of the first namespaces.
 pub record AreSpots (v : Abc) (numbers : List ℕ) (s : Spots) : Type 0 where
   pub found : (k : NameKey) → get keys_eq s.found k ≡ first (keys_eq k) (keys_of_classes v numbers)
   pub classes : s.classes ≡ firsts_of (keys_of_classes v numbers)

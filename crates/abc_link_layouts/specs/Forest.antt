@@ -1,4 +1,4 @@
--- The classes of the file by their bases, as far as these are classes of the file.
+-- The classes of the file by their bases, as far as these are classes of the file (a tool of other definitions).
 use Rattle.std.specs.Prelude.{ℕ, List, Some, None, map}
 use Rattle.std.specs.declared.option.Option.{Option}
 use Rattle.abc_link_names.specs.Meaning.{resolve}

@@ -1,4 +1,4 @@
--- The one numbering of the parts that have layouts.
+-- The one numbering of the parts that have layouts (profile: docs/LINKING.md, "Layouts").
 use Rattle.std.specs.Prelude.{◌≡◌, ℕ, List, [], ◌∷◌, ◌++◌, if◌then◌else◌, length, map}
 use Rattle.std.specs.List.{flat_map, range_with_len}
 use Rattle.abc_base.specs.Names.{host_classes}

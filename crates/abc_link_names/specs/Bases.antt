@@ -1,4 +1,4 @@
--- Bases and interfaces of classes.
+-- Bases and interfaces of classes (Overview, chapter 4, "Instance"; profile: docs/LINKING.md, "The rules").
 use Rattle.std.specs.Prelude.{ℕ, List, [], ◌∷◌, Bool, true, false, nat_eq, not, ◌&&◌, Some, None, if◌then◌else◌, map}
 use Rattle.std.specs.declared.option.Option.{Option}
 use Rattle.std.specs.List.{list_any, flat_map}
@@ -12,12 +12,14 @@ use Rattle.abc_file_types.specs.Methods.{has_flag}
 use Rattle.abc_file_types.specs.declared.classes.Instance.{Instance}
 use Rattle.abc_file_types.specs.declared.tables.Abc.{Abc}
 
+-- class k is an interface, as flag 04 says
 abbrev pub is_interface : Abc → ℕ → Bool
 is_interface v k = has_flag (instance_at v k).flags 0x04
 
 abbrev pub is_final : Abc → ℕ → Bool
 is_final v k = has_flag (instance_at v k).flags 0x02
 
+-- what the name of the base of class k stands for, if it stands for anything
 abbrev pub base_named : Abc → ℕ → Option Named
 base_named v k = resolve v (instance_at v k).super_name
 

@@ -81,6 +81,7 @@ two_classes flags base interfaces = record (program []) {
 
 -- ---- what holds of them
 
+-- Which rule each file breaks first, and by which item; of the last file all rules hold.
 pub record RuleExamples : Type 0 where
   pub no_script : IsFirstBroken (record (program []) { scripts = [] }) rules.NoScript (item kinds.File 0)
   -- a trait whose text comes from the stack

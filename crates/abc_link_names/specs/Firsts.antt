@@ -1,4 +1,4 @@
--- The first items that break a rule.
+-- The first items that break a rule (profile: docs/LINKING.md, "The rules").
 use Rattle.std.specs.Prelude.{◌≡◌, ℕ, ◌<◌, ◌^◌, Some, None, length}
 use Rattle.std.specs.declared.option.Option.{Option}
 use Rattle.abc_file_types.specs.declared.tables.Abc.{Abc}

@@ -1,5 +1,5 @@
--- Which interfaces a class names: itself, through its bases, or through the interfaces of interfaces. The base of an
--- interface is not followed.
+-- Which interfaces a class names: itself, through its bases, or through the interfaces of interfaces. The base of an interface is not followed
+-- (profile: docs/LINKING.md, "Interfaces").
 use Rattle.std.specs.Prelude.{ℕ, List, [], ◌++◌, IsTrue, if◌then◌else◌, map}
 use Rattle.abc_base_graphs.specs.Graph.{Leads}
 use Rattle.abc_link_names.specs.Meaning.{resolve}
@@ -16,5 +16,6 @@ above_class v i = interfaces_of v i ++ (if has_flag i.flags 0x04 then [] else cl
 abbrev pub class_graph : Abc → List (List ℕ)
 class_graph v = map (above_class v) v.instances
 
+-- Class k implements interface i: it names it itself, or over bases of classes and interfaces of interfaces.
 abbrev pub Implements : LinkedFile → ℕ → ℕ → Type 0
 Implements l k i = IsTrue (is_interface l.file i) × Leads (class_graph l.file) k i

@@ -1,4 +1,4 @@
--- What the traits and types of an item must not be.
+-- What the traits and types of an item must not be (profile: docs/LINKING.md, "The rules").
 use Rattle.std.specs.Prelude.{ℕ, List, [], ◌∷◌, Bool, true, false, nat_eq, not, ◌||◌, ◌&&◌, Some, None, is_some}
 use Rattle.std.specs.declared.option.Option.{Option}
 use Rattle.std.specs.List.{list_any}

@@ -1,4 +1,4 @@
--- The items of a file, and their order.
+-- The items of a file, and their order (profile: docs/LINKING.md, "The rules").
 use Rattle.std.specs.Prelude.{◌≡◌, ℕ, ◌<◌, ◌⊎◌, List, codes, length}
 use Rattle.abc_file_types.specs.declared.tables.Abc.{Abc}
 use Rattle.abc_link_names.specs.declared.items.LinkRule.{LinkRule}
@@ -49,6 +49,7 @@ rule_name rules.SameSlot = codes "SameSlot"
 rule_name rules.TraitNotRun = codes "TraitNotRun"
 rule_name rules.TooLarge = codes "TooLarge"
 
+-- the name of a kind of item, as error lines show it
 abbrev pub kind_name : ItemKind → List ℕ
 kind_name kinds.File = codes "file"
 kind_name kinds.Method = codes "method"

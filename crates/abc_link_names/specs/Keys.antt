@@ -1,4 +1,5 @@
--- Keys by which namespaces, and names of a namespace and a text, are found: equal keys are those of equal ones.
+-- Keys by which namespaces, and names of a namespace and a text, are found: equal keys are those of equal ones
+-- (a tool of other definitions; profile: docs/LINKING.md, "Texts, namespaces and names", for equality).
 use Rattle.std.specs.Prelude.{ℕ, List, Bool, nat_eq, ◌&&◌, if◌then◌else◌}
 use Rattle.std.specs.Str.{bytes_eq}
 use Rattle.abc_file_types.specs.declared.names.Namespace.{Namespace}
@@ -14,6 +15,7 @@ key_in numbers t a n =
     if is_private n.kind then record { text = t; code = 0x05; name = 0; place = a }
     else record { text = t; code = shared_code n.kind; name = number numbers n.name; place = 0 }
 
+-- the key of a name of a namespace and a text, by the numbers of the file's texts
 abbrev pub name_key : Abc → List ℕ → DefiniteName → NameKey
 name_key v numbers d = key_in numbers (number numbers d.string) d.ns (space v d.ns)
 
@@ -21,5 +23,6 @@ name_key v numbers d = key_in numbers (number numbers d.string) d.ns (space v d.
 abbrev pub same_name : Abc → DefiniteName → DefiniteName → Bool
 same_name v a b = bytes_eq (text v a.string) (text v b.string) && same_space v a.ns b.ns
 
+-- two keys are equal
 abbrev pub keys_eq : NameKey → NameKey → Bool
 keys_eq a b = nat_eq a.text b.text && (nat_eq a.code b.code && (nat_eq a.name b.name && nat_eq a.place b.place))

@@ -1,4 +1,4 @@
--- The order of kinds, and the least kind above two.
+-- The order of kinds, and the least kind above two (profile: docs/VERIFYING.md, "Kinds").
 use Rattle.abc_link_names.specs.Linked.{IsLayout, LinkedFile}
 use Rattle.abc_link_names.specs.Tree.{IsBelow}
 use Rattle.abc_link_names.specs.declared.types.Kind.{Kind}

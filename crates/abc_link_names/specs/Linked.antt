@@ -1,5 +1,5 @@
--- A linked file is the file and the list of the parts that have layouts, by the numbers of these. All else is a function of
--- the two.
+-- A linked file is the file and the list of the parts that have layouts, by the numbers of these. All else is a function of the two
+-- (profile: docs/LINKING.md).
 use Rattle.std.specs.Prelude.{ℕ, ◌<◌, ◌^◌, List, length, unwrap_or}
 use Rattle.std.specs.declared.option.Option.{Option}
 use Rattle.abc_file_types.specs.Files.{Fits}
@@ -11,6 +11,7 @@ use Rattle.abc_link_names.specs.Places.{base_of, place_of}
 use Rattle.abc_link_names.specs.declared.part.LayoutId.{LayoutId}
 use Rattle.abc_link_names.specs.declared.part.Part.{Part}
 
+-- A file, and what each of its layouts is of.
 pub record LinkedFile : Type 0 where
   pub file : Abc
   pub parts : List Part
@@ -32,6 +33,7 @@ IsLayout l x = x.0 < length l.parts
 abbrev pub part_of : LinkedFile → LayoutId → Part
 part_of l x = part_at l.parts x.0
 
+-- the layout of a part that has one
 abbrev pub layout_of : LinkedFile → Part → LayoutId
 layout_of l p = record { 0 = place_of l.parts p }
 

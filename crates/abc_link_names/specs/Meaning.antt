@@ -1,4 +1,4 @@
--- What a name of a type, a base or an interface stands for.
+-- What a name of a type, a base or an interface stands for (Overview, chapter 2; profile: docs/LINKING.md, "Texts, namespaces and names").
 use Rattle.std.specs.Prelude.{ℕ, List, [], ◌∷◌, Bool, true, false, nat_eq, ◌&&◌, Some, None, if◌then◌else◌, codes}
 use Rattle.std.specs.declared.option.Option.{Option}
 use Rattle.std.specs.List.{list_any}
@@ -22,6 +22,7 @@ holds v forms.Every s = true
 holds v (forms.One a) s = same_space v s a
 holds v (forms.Set k) s = list_any (same_space v s) (set v k)
 
+-- the public namespace is one of the namespaces of a name
 abbrev pub holds_public : Abc → Spaces → Bool
 holds_public v forms.Every = true
 holds_public v (forms.One a) = is_public v a
@@ -52,6 +53,7 @@ host_named t = host_among host_classes t
 
 -- ---- what a name stands for
 
+-- the class that was found for a name; or else what the host has under its text, if one of the name's namespaces is public
 abbrev pub class_or_host : Abc → PlainName → Option ℕ → Option Named
 class_or_host v n (Some k) = Some (named.Class k)
 class_or_host v n None = if holds_public v n.spaces then host_named (text v n.string) else None

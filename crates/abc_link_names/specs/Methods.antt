@@ -1,4 +1,4 @@
--- The methods that a file names.
+-- The methods that a file names (profile: docs/LINKING.md, "The rules" and "Owners and bodies of methods").
 use Rattle.std.specs.Prelude.{ℕ, List, [], ◌∷◌, ◌++◌, Bool, nat_eq, nat_lt, ◌&&◌, if◌then◌else◌, count_by, map}
 use Rattle.std.specs.List.{flat_map}
 use Rattle.abc_file_types.specs.Methods.{has_flag}

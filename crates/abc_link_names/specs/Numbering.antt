@@ -1,4 +1,4 @@
--- Layouts by their numbers: a list of the parts that have one.
+-- Layouts by their numbers: a list of the parts that have one (profile: docs/LINKING.md, "Layouts").
 use Rattle.std.specs.Prelude.{◌≡◌, ◌≢◌, ℕ, ◌<◌, List, Some, All, Contains, length, take, get_or}
 use Rattle.abc_base.specs.declared.names.HostClass.TheVariants as hosts
 use Rattle.abc_file_types.specs.declared.tables.Abc.{Abc}
@@ -6,6 +6,7 @@ use Rattle.abc_link_names.specs.Parts.{HasLayout, parent}
 use Rattle.abc_link_names.specs.declared.part.Part.{Part}
 use Rattle.abc_link_names.specs.declared.part.Part.TheVariants as parts
 
+-- the part whose layout has the number x
 abbrev pub part_at : List Part → ℕ → Part
 part_at all x = get_or all x (parts.Host hosts.Object)
 

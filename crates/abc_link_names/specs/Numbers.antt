@@ -11,6 +11,7 @@ use Rattle.abc_link_names.specs.declared.tables.NameTables.{NameTables}
 use Rattle.abc_link_names.specs.Pool.{text}
 use Rattle.abc_link_names.specs.Meaning.{class_name_of}
 
+-- the number of the text of a string, by the string's index
 abbrev pub number : List ℕ → ℕ → ℕ
 number numbers i = get_or numbers i 0
 

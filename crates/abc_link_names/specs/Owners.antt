@@ -1,4 +1,4 @@
--- Whose method each method is, and which body it has.
+-- Whose method each method is, and which body it has (profile: docs/LINKING.md, "Owners and bodies of methods").
 use Rattle.std.specs.Prelude.{ℕ, ◌+◌, List, [], ◌∷◌, ◌++◌, Some, None, get_or, nat_eq}
 use Rattle.std.specs.declared.option.Option.{Option}
 use Rattle.std.specs.List.{flat_map}

@@ -1,4 +1,4 @@
--- What has a layout, and what stands under what.
+-- What has a layout, and what stands under what (profile: docs/LINKING.md, "Layouts").
 use Rattle.std.specs.Prelude.{ℕ, ◌<◌, Bool, Some, None, IsTrue, length}
 use Rattle.std.specs.declared.option.Option.{Option}
 use Rattle.abc_base.specs.declared.names.HostClass.{HostClass}

@@ -1,4 +1,4 @@
--- Layouts found by their parts, and the layout that one stands under.
+-- Layouts found by their parts, and the layout that one stands under (profile: docs/LINKING.md, "Layouts").
 use Rattle.std.specs.Prelude.{ℕ, List, Bool, nat_eq, ◌&&◌, Some, None, map, unwrap_or}
 use Rattle.std.specs.declared.option.Option.{Option}
 use Rattle.abc_base.specs.declared.names.HostClass.{HostClass}
@@ -32,6 +32,7 @@ host_number hosts.Array = 13
 abbrev pub key_with : ℕ → ℕ → ℕ → PartKey
 key_with kind number exception = record { kind = kind; number = number; exception = exception }
 
+-- the key of a part: its kind, the number of what it is of, and of a catch object that of the handler too; different parts have different keys
 abbrev pub part_key : Part → PartKey
 part_key (parts.Host h) = key_with 0 (host_number h) 0
 part_key (parts.Instance k) = key_with 1 k 0

@@ -1,5 +1,5 @@
--- Texts, namespaces, sets and names of a file by their indices. Index 0 is the empty text, and no namespace, set or name;
--- no index past the end is asked for.
+-- Texts, namespaces, sets and names of a file by their indices. Index 0 is the empty text, and no namespace, set or name; no index past the end is
+-- asked for (Overview, chapters 2 and 4; profile: docs/LINKING.md, "Texts, namespaces and names").
 use Rattle.std.specs.Prelude.{ℕ, ◌-◌, List, [], Bool, false, nat_eq, not, ◌||◌, ◌&&◌, Some, None, if◌then◌else◌, get_or}
 use Rattle.std.specs.declared.option.Option.{Option}
 use Rattle.std.specs.Str.{bytes_eq}
@@ -15,21 +15,25 @@ use Rattle.abc_link_names.specs.declared.named.Spaces.TheVariants as forms
 use Rattle.abc_link_names.specs.declared.named.PlainName.{PlainName}
 use Rattle.abc_link_names.specs.declared.named.DefiniteName.{DefiniteName}
 
+-- the text of an index into the pool of strings; of index 0 it is empty
 abbrev pub text : Abc → ℕ → List ℕ
 text v i = if nat_eq i 0 then [] else get_or v.strings (i - 1) []
 
 abbrev pub no_space : Namespace
 no_space = record { kind = spaces.Private; name = 0 }
 
+-- the namespace of an index into the pool of namespaces
 abbrev pub space : Abc → ℕ → Namespace
 space v i = if nat_eq i 0 then no_space else get_or v.namespaces (i - 1) no_space
 
+-- the namespaces of a set, by its index; of index 0 there are none
 abbrev pub set : Abc → ℕ → List ℕ
 set v i = if nat_eq i 0 then [] else get_or v.sets (i - 1) []
 
 abbrev pub no_name : Multiname
 no_name = names.RtL false
 
+-- the multiname of an index into the pool of multinames
 abbrev pub name : Abc → ℕ → Multiname
 name v i = if nat_eq i 0 then no_name else get_or v.names (i - 1) no_name
 

@@ -1,4 +1,4 @@
--- When an item of a file breaks a rule of linking, and the first broken rule.
+-- When an item of a file breaks a rule of linking, and the first broken rule (profile: docs/LINKING.md, "The rules").
 use Rattle.std.specs.Prelude.{ℕ, ◌<◌, ◌⊎◌, Bool, nat_eq, nat_lt, ◌&&◌, ◌||◌, IsTrue, length}
 use Rattle.abc_base_graphs.specs.Graph.{Returns}
 use Rattle.abc_file_types.specs.declared.code.Body.{Body}

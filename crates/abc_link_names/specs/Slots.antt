@@ -1,4 +1,4 @@
--- The slots of layouts, and their numbers.
+-- The slots of layouts, and their numbers (Overview, chapter 4, "Trait"; profile: docs/LINKING.md, "Slots").
 use Rattle.std.specs.Prelude.{ℕ, ◌<◌, ◌^◌, List, [], ◌∷◌, true, false, Some, None, if◌then◌else◌, get_or, length, nat_eq, unwrap_or}
 use Rattle.std.specs.declared.option.Option.{Option}
 use Rattle.std.specs.List.{flat_map}
@@ -68,6 +68,7 @@ own_numbers l p = flat_map (λ t. numbers_in t.body) (traits_of l.file p)
 
 -- ---- with what is inherited
 
+-- all slots of the layout x: those of its bases, the highest base first, and then its own
 abbrev pub slots_of : LinkedFile → ℕ → List SlotInfo
 slots_of l x = heritage (base l) (λ y. own_slots l (part_at l.parts y)) (Some x)
 

@@ -1,4 +1,5 @@
--- The value at which a slot starts: that of its trait, coerced to its type.
+-- The value at which a slot starts: that of its trait, coerced to its type
+-- (Overview, chapter 4, "Trait"; profile: docs/LINKING.md, "Where a slot starts").
 use Rattle.std.specs.Prelude.{ℕ, ℤ, ◌-◌, pos, List, [], ◌∷◌, Bool, true, false, nat_eq, not, Some, None, if◌then◌else◌, get_or}
 use Rattle.std.specs.Ordering.{int_eq}
 use Rattle.std.specs.Int.{cast_signed, cast_unsigned, w32}
@@ -19,9 +20,11 @@ use Rattle.abc_link_names.specs.declared.start.Start.TheVariants as starts
 
 -- ---- the value of a trait
 
+-- the number of an index into the pool of ints; of index 0 it is 0
 abbrev pub int_at : Abc → ℕ → ℤ
 int_at v n = if nat_eq n 0 then pos 0 else get_or v.ints (n - 1) (pos 0)
 
+-- the number of an index into the pool of uints; of index 0 it is 0
 abbrev pub uint_at : Abc → ℕ → ℕ
 uint_at v n = if nat_eq n 0 then 0 else get_or v.uints (n - 1) 0
 

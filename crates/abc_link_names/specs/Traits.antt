@@ -18,6 +18,7 @@ trait_name v t = qname (name v t.name)
 abbrev pub trait_texts : Abc → List TraitInfo → List (List ℕ)
 trait_texts v ts = map (λ t. text v (trait_name v t).string) ts
 
+-- the own table of traits of the layout x
 abbrev pub own_table_of : LinkedFile → ℕ → List TraitInfo
 own_table_of l x = traits_of l.file (part_at l.parts x)
 

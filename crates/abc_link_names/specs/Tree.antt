@@ -1,4 +1,4 @@
--- Layouts form a tree: what a layout stands under.
+-- Layouts form a tree: what a layout stands under (profile: docs/LINKING.md, "Layouts").
 use Rattle.std.specs.Prelude.{◌≡◌, ℕ, zero, suc}
 use Rattle.abc_link_names.specs.Linked.{LinkedFile, above}
 

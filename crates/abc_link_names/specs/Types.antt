@@ -1,4 +1,4 @@
--- Types of names, over the numbers of layouts.
+-- Types of names, over the numbers of layouts (profile: docs/LINKING.md, "Types").
 use Rattle.std.specs.Prelude.{ℕ, Some, None, if◌then◌else◌}
 use Rattle.std.specs.declared.option.Option.{Option}
 use Rattle.abc_base.specs.declared.names.HostClass.{HostClass}
@@ -24,6 +24,7 @@ host_type l hosts.Str = types.Text
 host_type l hosts.Namespace = types.Space
 host_type l other = types.Of (layout_of l (parts.Host other))
 
+-- the type of what a name stands for
 abbrev pub type_in : LinkedFile → Named → Ty
 type_in l named.Any = types.Any
 type_in l named.Void = types.Void

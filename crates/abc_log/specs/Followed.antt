@@ -1,4 +1,4 @@
--- What was written against what a source had.
+-- What was written against what a source had (a tool of other definitions; profile: docs/PROGRAM.md, "Logs", for where a log differs).
 use Rattle.std.specs.Prelude.{◌≡◌, ℕ, suc, ◌-◌, ◌^◌, ◌<◌, ◌≤◌, List, [], ◌∷◌, ◌++◌, drop, length, min, nat_eq, take, Some, None, IfSome, if◌then◌else◌}
 use Rattle.std.specs.Io.KnownBytes.{Consumes}
 use Rattle.std.specs.declared.option.Option.{Option}

@@ -1,4 +1,4 @@
--- Where an input doesn't begin with the line that stands before a file.
+-- Where an input doesn't begin with the line that stands before a file (profile: docs/PROGRAM.md, "Logs").
 use Rattle.std.specs.Prelude.{◌≡◌, ℕ, suc, ◌+◌, ◌<◌, Bool, true, false, ◌&&◌, ◌||◌, nat_eq, nat_le, nat_lt, if◌then◌else◌, List, [], ◌∷◌, ◌++◌, length, IfSome}
 use Rattle.std.specs.declared.option.Option.{Option}
 use Rattle.abc_log.specs.declared.errors.HeadError.{HeadError}

@@ -1,4 +1,4 @@
--- Where an input doesn't begin with the line that stands behind a file.
+-- Where an input doesn't begin with the line that stands behind a file (profile: docs/PROGRAM.md, "Logs").
 use Rattle.std.specs.Prelude.{◌≡◌, ◌≢◌, ℕ, ◌<◌, Bool, true, false, not, ◌&&◌, nat_eq, nat_le, List, [], ◌∷◌, ◌++◌, length}
 use Rattle.std.specs.List.{list_all}
 use Rattle.abc_heap_store.specs.declared.records.Limits.{Limits}

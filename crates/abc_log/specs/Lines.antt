@@ -1,4 +1,4 @@
--- The lines of a step log.
+-- The lines of a step log (profile: docs/PROGRAM.md, "Logs").
 use Rattle.std.specs.Prelude.{ℕ, zero, suc, ◌/◌, ◌%◌, ◌^◌, ◌<◌, ◌≤◌, List, [], ◌∷◌, ◌++◌, codes, decimal}
 use Rattle.std.specs.List.{flat_map}
 use Rattle.abc_base.specs.Escapes.{escaped, hex_digit}

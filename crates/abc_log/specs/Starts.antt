@@ -1,4 +1,4 @@
--- Which script a step started, by what counts as started before it and after.
+-- Which script a step started, by what counts as started before it and after (profile: docs/PROGRAM.md, "Logs").
 use Rattle.std.specs.Prelude.{◌≡◌, ◌⊎◌, ℕ, suc, Bool, true, false, List, [], ◌∷◌, set, Some, None}
 use Rattle.std.specs.declared.option.Option.{Option}
 

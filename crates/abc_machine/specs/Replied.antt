@@ -1,4 +1,4 @@
--- What comes of a call, as code answers it, and what it wrote.
+-- What comes of a call, as code answers it, and what it wrote (profile: docs/EMBEDDING.md, "A session").
 use Rattle.std.specs.Prelude.{◌≡◌, ℕ, ◌≤◌, List, Bool, true, false, IsSome}
 use Rattle.std.specs.Io.KnownBytes.{append_known}
 use Rattle.std.specs.declared.option.Option.{Option}

@@ -1,4 +1,4 @@
--- An instruction that is run, what it comes to, and how its frame goes on.
+-- An instruction that is run, what it comes to, and how its frame goes on (profile: docs/MACHINE.md, "A step").
 use Rattle.std.specs.Prelude.{ℕ, ◌+◌, List, [], ◌∷◌, ◌++◌, length, reverse, set}
 use Rattle.abc_heap_values.specs.declared.values.Value.{Value}
 use Rattle.abc_heap_store.specs.declared.records.ScopeEntry.{ScopeEntry}

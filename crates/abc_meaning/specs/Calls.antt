@@ -1,5 +1,5 @@
--- A call on a kept heap: a method of the last script is entered with numbers, and steps are taken until its frame has returned, or
--- the run ends otherwise. To enter it is no step. Afterwards all frames are gone; the heap and the started scripts stay.
+-- A call on a kept heap: a method of the last script is entered with numbers, and steps are taken until its frame has returned, or the run ends
+-- otherwise. To enter it is no step. Afterwards all frames are gone; the heap and the started scripts stay (profile: docs/EMBEDDING.md, "A session").
 use Rattle.std.specs.Prelude.{ℕ, ℤ, zero, suc, List, [], ◌∷◌, map}
 use Rattle.abc_base.specs.declared.formula.Formula.{Formula}
 use Rattle.abc_heap_values.specs.declared.values.Value.{Value}

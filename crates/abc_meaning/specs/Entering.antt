@@ -1,4 +1,4 @@
--- Frames, and methods that are entered.
+-- Frames, and methods that are entered (Overview, chapter 4, "Method signature"; profile: docs/MACHINE.md, "The rules of a run").
 use Rattle.std.specs.Prelude.{ℕ, List, [], ◌∷◌, ◌++◌, length, take, drop, set, replicate, true, Some, None, nat_le, if◌then◌else◌}
 use Rattle.std.specs.declared.option.Option.{Option}
 use Rattle.abc_base.specs.declared.names.Fault.TheVariants as faults

@@ -1,4 +1,4 @@
--- The functions that a file exports: the method traits of its last script whose names are public.
+-- The functions that a file exports: the method traits of its last script whose names are public (profile: docs/EMBEDDING.md, "A session").
 use Rattle.std.specs.Prelude.{◌≡◌, ℕ, List, Bool, true, false, ◌&&◌, Some, None}
 use Rattle.std.specs.declared.option.Option.{Option}
 use Rattle.std.specs.List.{find}

@@ -1,4 +1,4 @@
--- Types of class objects, slots by numbers, and tests of membership.
+-- Types of class objects, slots by numbers, and tests of membership (Overview, chapter 5; profile: docs/MACHINE.md, "What each instruction does").
 use Rattle.std.specs.Prelude.{ℕ, Bool, true, false, nat_eq, slice_get, Some, None, if◌then◌else◌}
 use Rattle.std.specs.declared.option.Option.{Option}
 use Rattle.std.specs.List.{list_any}

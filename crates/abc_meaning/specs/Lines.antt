@@ -1,4 +1,4 @@
--- How a run ends, as the last line of its log.
+-- How a run ends, as the last line of its log (profile: docs/PROGRAM.md, "Logs").
 use Rattle.std.specs.Prelude.{List, [], ℕ, codes}
 use Rattle.abc_base.specs.Names.{class_name, fault_name}
 use Rattle.abc_meaning.specs.Throwing.{Done, End, FuelSpent, Full, Profile, Stuck, Uncaught}

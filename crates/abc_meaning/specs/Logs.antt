@@ -1,4 +1,4 @@
--- The log of a run: a line for each step, with what it wrote, and then how the run ends.
+-- The log of a run: a line for each step, with what it wrote, and then how the run ends (profile: docs/PROGRAM.md, "Logs").
 use Rattle.std.specs.Prelude.{ℕ, zero, suc, List, [], ◌∷◌, ◌++◌, Bool, drop, length, Some, None}
 use Rattle.std.specs.declared.option.Option.{Option}
 use Rattle.abc_heap_store.specs.declared.records.Limit.{Limit}

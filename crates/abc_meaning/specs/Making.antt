@@ -1,4 +1,4 @@
--- `new` on a value.
+-- `new` on a value (Overview, chapter 5; profile: docs/MACHINE.md, "The rules of a run").
 use Rattle.std.specs.Prelude.{ℕ, pos, negsuc, List, [], ◌∷◌, length, replicate, nat_le, if◌then◌else◌}
 use Rattle.abc_base.specs.declared.names.Fault.TheVariants as faults
 use Rattle.abc_base.specs.declared.names.HostClass.{HostClass}

@@ -1,4 +1,4 @@
--- The state that a run begins with, and the meaning of a run.
+-- The state that a run begins with, and the meaning of a run (profile: docs/MACHINE.md, "The rules of a run").
 use Rattle.std.specs.Prelude.{ℕ, zero, suc, List, [], false, length, replicate, nat_lt, Some, None, if◌then◌else◌}
 use Rattle.std.specs.declared.option.Option.{Option}
 use Rattle.abc_heap_store.specs.Heap.{Heap, cells_used}

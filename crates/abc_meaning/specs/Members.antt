@@ -1,4 +1,4 @@
--- What is done to values by names: read, write, call and delete.
+-- What is done to values by names: read, write, call and delete (Overview, chapters 2 and 5; profile: docs/MACHINE.md, "The rules of a run").
 use Rattle.std.specs.Prelude.{ℕ, pos, List, [], ◌∷◌, Bool, true, false, not, ◌&&◌, length, slice_get, Some, None, nat_eq, nat_lt, if◌then◌else◌}
 use Rattle.std.specs.declared.option.Option.{Option}
 use Rattle.abc_base.specs.declared.names.Fault.TheVariants as faults

@@ -1,4 +1,5 @@
--- The name of an instruction, and the type that its operand names. A runtime name is made a text before its namespace is asked.
+-- The name of an instruction, and the type that its operand names. A runtime name is made a text before its namespace is asked
+-- (Overview, chapters 2 and 5; profile: docs/MACHINE.md, "The rules of a run").
 use Rattle.std.specs.Prelude.{List, ◌∷◌, Some, None}
 use Rattle.std.specs.declared.option.Option.{Option}
 use Rattle.abc_base.specs.declared.names.HostClass.TheVariants as hosts

@@ -1,4 +1,5 @@
--- Objects, functions, activations, catch objects and classes that are made by instructions of their own.
+-- Objects, functions, activations, catch objects and classes that are made by instructions of their own
+-- (Overview, chapter 5; profile: docs/MACHINE.md, "The rules of a run").
 use Rattle.std.specs.Prelude.{List, [], ◌∷◌, Some, None, nat_eq, if◌then◌else◌}
 use Rattle.std.specs.declared.option.Option.{Option}
 use Rattle.abc_base.specs.declared.names.HostClass.TheVariants as hosts

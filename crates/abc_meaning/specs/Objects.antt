@@ -1,4 +1,5 @@
--- Objects that are made, their properties, and the class objects of the file's classes.
+-- Objects that are made, their properties, and the class objects of the file's classes
+-- (profile: docs/MACHINE.md, "Heap and room" and "The rules of a run").
 use Rattle.std.specs.Prelude.{ℕ, ◌+◌, List, length, slice_get, Some, None}
 use Rattle.std.specs.declared.option.Option.{Option}
 use Rattle.abc_base.specs.declared.names.HostClass.{HostClass}

@@ -1,4 +1,4 @@
--- Operations as parts of a step.
+-- Operations as parts of a step (Overview, chapter 5; profile: docs/MACHINE.md, "Values, conversions and operations").
 use Rattle.std.specs.Prelude.{ℕ, Bool, Ok, Err}
 use Rattle.std.specs.declared.result.Result.{Result}
 use Rattle.abc_heap_values.specs.declared.values.Span.{Span}

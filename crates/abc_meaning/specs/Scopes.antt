@@ -1,4 +1,5 @@
--- Searches in scopes. A script that has to be started first is entered, and then the instruction is executed again.
+-- Searches in scopes. A script that has to be started first is entered, and then the instruction is executed again
+-- (Overview, chapters 3 and 5; profile: docs/MACHINE.md, "The rules of a run").
 use Rattle.std.specs.Prelude.{[], ◌∷◌}
 use Rattle.abc_base.specs.declared.names.HostClass.TheVariants as hosts
 use Rattle.abc_heap_values.specs.declared.values.ObjId.{ObjId}

@@ -1,4 +1,5 @@
--- What is run: a linked file with the formulas of the host, and what it says of names, methods and layouts.
+-- What is run: a linked file with the formulas of the host, and what it says of names, methods and layouts
+-- (Overview, chapter 4; profile: docs/MACHINE.md, "The rules of a run").
 use Rattle.std.specs.Prelude.{ℕ, pos, ◌+◌, ◌-◌, List, ◌++◌, Bool, true, false, not, ◌&&◌, ◌||◌, length, map, replicate, slice_get, Some, None, nat_le, nat_eq, if◌then◌else◌}
 use Rattle.std.specs.declared.option.Option.{Option}
 use Rattle.abc_base.specs.declared.formula.Formula.{Formula}

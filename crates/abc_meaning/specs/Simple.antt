@@ -1,4 +1,5 @@
--- Acts that need no object: branches, constants, locals, scopes, conversions and computing.
+-- Acts that need no object: branches, constants, locals, scopes, conversions and computing
+-- (Overview, chapter 5; profile: docs/MACHINE.md, "What each instruction does").
 use Rattle.std.specs.Prelude.{ℕ, ℤ, pos, negsuc, ◌-◌, List, [], ◌∷◌, Bool, not, length, take, get_or, slice_get, if◌then◌else◌}
 use Rattle.abc_base.specs.declared.names.HostClass.TheVariants as hosts
 use Rattle.abc_heap_values.specs.declared.values.Value.{Value}

@@ -1,4 +1,4 @@
--- One step: the start of the last script, or the instruction of the newest frame.
+-- One step: the start of the last script, or the instruction of the newest frame (profile: docs/MACHINE.md, "A step" and "The rules of a run").
 use Rattle.std.specs.Prelude.{ℕ, ◌+◌, List, [], ◌∷◌, Bool, true, false, length, take, drop, reverse, slice_get, Some, None}
 use Rattle.std.specs.declared.option.Option.{Option}
 use Rattle.abc_heap_values.specs.declared.values.Value.{Value}

@@ -1,4 +1,5 @@
--- Super operations: the search begins at the base of the method's class, and finds declared traits alone.
+-- Super operations: the search begins at the base of the method's class, and finds declared traits alone
+-- (Overview, chapter 5; profile: docs/MACHINE.md, "The rules of a run").
 use Rattle.std.specs.Prelude.{false, Some, None}
 use Rattle.std.specs.declared.option.Option.{Option}
 use Rattle.abc_base.specs.declared.names.HostClass.TheVariants as hosts

@@ -1,5 +1,5 @@
--- The table of acts, beside the table of rows: the row says how many values are taken and what is tested, the act what is made of
--- them.
+-- The table of acts, beside the table of rows: the row says how many values are taken and what is tested, the act what is made of them
+-- (Overview, chapter 5; profile: docs/MACHINE.md, "What each instruction does").
 use Rattle.std.specs.Prelude.{ℕ, List, [], ◌∷◌, true, false, not, nat_eq, pos, if◌then◌else◌, Some, None}
 use Rattle.std.specs.declared.option.Option.{Option}
 use Rattle.abc_base.specs.declared.names.Fault.TheVariants as faults

@@ -1,4 +1,4 @@
--- The tests of a step, each asked before the act: where one fails, the step is stuck.
+-- The tests of a step, each asked before the act: where one fails, the step is stuck (profile: docs/MACHINE.md, "The rules of a run").
 use Rattle.std.specs.Prelude.{ℕ, ◌+◌, ◌-◌, List, [], ◌∷◌, Bool, true, false, ◌&&◌, length, take, drop, reverse, is_some, nat_le, nat_lt, slice_get, Some, None}
 use Rattle.std.specs.declared.option.Option.{Option}
 use Rattle.abc_heap_values.specs.declared.values.Value.{Value}

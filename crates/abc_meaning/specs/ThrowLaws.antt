@@ -1,4 +1,4 @@
--- What is promised of verified files: no step is stuck. (Stated here; the proofs stand above.)
+-- What is promised of verified files: no step is stuck. Stated here; the proofs stand above (profile: docs/THEOREMS.md, "The meaning of a run").
 use Rattle.std.specs.Prelude.{◌≡◌, ◌≢◌, ℕ, ◌<◌, ◌^◌, List, length, None}
 use Rattle.abc_base.specs.Hosts.{AreFormulas}
 use Rattle.abc_heap_values.specs.declared.values.Value.{Value}

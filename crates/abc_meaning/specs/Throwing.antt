@@ -1,4 +1,4 @@
--- Throws: the frames' handlers are tried, the newest frame first.
+-- Throws: the frames' handlers are tried, the newest frame first (Overview, chapter 3; profile: docs/MACHINE.md, "The rules of a run").
 use Rattle.std.specs.Prelude.{ℕ, ◌-◌, List, [], ◌∷◌, Bool, false, ◌&&◌, nat_le, nat_lt, length, Some, None, if◌then◌else◌}
 use Rattle.std.specs.declared.option.Option.{Option}
 use Rattle.std.specs.List.{find}

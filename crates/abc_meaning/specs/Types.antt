@@ -1,4 +1,4 @@
--- Whether a value is of a type, by computing.
+-- Whether a value is of a type, by computing (Overview, chapter 5; profile: docs/MACHINE.md, "Values, conversions and operations").
 use Rattle.std.specs.Prelude.{ℕ, zero, suc, pos, List, int_le, length, Bool, true, false, not, ◌&&◌, ◌||◌, nat_eq}
 use Rattle.std.specs.List.{list_any}
 use Rattle.abc_heap_values.specs.declared.values.Value.{Value}

@@ -1,4 +1,5 @@
--- Walking over an object's properties, or an array's elements, by their positions.
+-- Walking over an object's properties, or an array's elements, by their positions
+-- (Overview, chapter 5; profile: docs/MACHINE.md, "The rules of a run").
 use Rattle.std.specs.Prelude.{ℕ, ◌-◌, pos, List, [], ◌∷◌, true, false, slice_get, Some, None, if◌then◌else◌}
 use Rattle.std.specs.Fmt.{decimal}
 use Rattle.std.specs.declared.option.Option.{Option}

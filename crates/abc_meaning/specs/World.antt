@@ -1,5 +1,5 @@
--- What the parts of a step do: each goes on with a value, or stops the step. The order of the parts is the order of effects and
--- of room.
+-- What the parts of a step do: each goes on with a value, or stops the step. The order of the parts is the order of effects and of room
+-- (profile: docs/MACHINE.md, "A step").
 use Rattle.std.specs.Prelude.{ℕ, ◌+◌, List, [], ◌∷◌, ◌++◌, Bool, true, false, length, slice_get, Some, None, nat_le, if◌then◌else◌}
 use Rattle.std.specs.declared.option.Option.{Option}
 use Rattle.abc_base.specs.declared.names.Fault.{Fault}

@@ -1,4 +1,4 @@
--- The candidates of a search, in order, and which of them fit a name.
+-- The candidates of a search, in order, and which of them fit a name (Overview, chapter 2; profile: docs/MACHINE.md, "The search").
 use Rattle.std.specs.Prelude.{ℕ, ◌+◌, List, [], ◌∷◌, ◌++◌, Bool, false, not, ◌&&◌, ◌||◌, map, reverse, Some, None, if◌then◌else◌}
 use Rattle.std.specs.declared.option.Option.{Option}
 use Rattle.std.specs.List.{find, list_any, flat_map}

@@ -1,4 +1,4 @@
--- Element names: `length`, or the decimal text, without leading zeros, of a number from 0 to 4294967294.
+-- Element names: `length`, or the decimal text, without leading zeros, of a number from 0 to 4294967294 (profile: docs/MACHINE.md, "The search").
 use Rattle.std.specs.Prelude.{ℕ, ◌+◌, ◌*◌, ◌-◌, List, [], ◌∷◌, Bool, false, not, ◌&&◌, nat_eq, nat_le, codes, Some, None, if◌then◌else◌}
 use Rattle.std.specs.declared.option.Option.{Option}
 use Rattle.std.specs.List.{list_all}

@@ -1,4 +1,4 @@
--- The fixed texts, one after the other at the head of part 0.
+-- The fixed texts, one after the other at the head of part 0 (profile: docs/MACHINE.md, "Heap and room").
 use Rattle.std.specs.Prelude.{ℕ, List, codes}
 use Rattle.abc_heap_values.specs.declared.values.Span.{Span}
 use Rattle.abc_objects.specs.declared.fixed.FixedText.{FixedText}

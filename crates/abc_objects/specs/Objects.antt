@@ -1,4 +1,5 @@
--- The objects that every run begins with, by their numbers in a heap. And prototypes and delegates.
+-- The objects that every run begins with, by their numbers in a heap. And prototypes and delegates
+-- (profile: docs/MACHINE.md, "Heap and room" and "The search").
 use Rattle.std.specs.Prelude.{ℕ, length, Some, None}
 use Rattle.std.specs.declared.option.Option.{Option}
 use Rattle.abc_base.specs.declared.names.HostClass.{HostClass}

@@ -1,4 +1,4 @@
--- The opening heap: what every run begins with.
+-- The opening heap: what every run begins with (profile: docs/MACHINE.md, "Heap and room").
 use Rattle.std.specs.Prelude.{◌≡◌, ℕ, ◌+◌, ◌<◌, ◌≤◌, List, [], ◌∷◌, ◌++◌, length, map, codes, replicate, Option, Some, None, option_map, false}
 use Rattle.std.specs.List.{concat, range_with_len, sum}
 use Rattle.abc_base.specs.Names.{class_name, host_classes}

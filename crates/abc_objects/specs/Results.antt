@@ -1,4 +1,4 @@
--- What a search passes over, and what several searches find.
+-- What a search passes over, and what several searches find (profile: docs/MACHINE.md, "The search").
 use Rattle.std.specs.Prelude.{Bool, true, false}
 use Rattle.abc_objects.specs.declared.found.Found.{Found}
 use Rattle.abc_objects.specs.declared.found.Found.TheVariants.{WrongSide, Missing}

@@ -1,4 +1,4 @@
--- The places of a search in scopes, in order, and which of them have a name.
+-- The places of a search in scopes, in order, and which of them have a name (Overview, chapter 3; profile: docs/MACHINE.md, "The search").
 use Rattle.std.specs.Prelude.{ℕ, List, [], ◌∷◌, ◌++◌, Bool, false, map, reverse, Some, None, get_or, length, if◌then◌else◌}
 use Rattle.std.specs.declared.option.Option.{Option}
 use Rattle.std.specs.List.{list_any, range_with_len}

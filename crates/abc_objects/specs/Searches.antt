@@ -1,4 +1,4 @@
--- The three searches. Each answers the first of its candidates that fits.
+-- The three searches. Each answers the first of its candidates that fits (Overview, chapters 2 and 3; profile: docs/MACHINE.md, "The search").
 use Rattle.std.specs.Prelude.{ℕ, List, Bool}
 use Rattle.std.specs.declared.option.Option.{Option}
 use Rattle.std.specs.List.{find}

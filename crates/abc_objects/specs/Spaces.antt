@@ -1,4 +1,4 @@
--- Which namespaces a name holds.
+-- Which namespaces a name holds (Overview, chapter 2; profile: docs/MACHINE.md, "The search").
 use Rattle.std.specs.Prelude.{ℕ, Bool, true, false, nat_eq, Some, None, if◌then◌else◌}
 use Rattle.std.specs.declared.option.Option.{Option}
 use Rattle.std.specs.List.{list_any}

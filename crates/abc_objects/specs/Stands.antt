@@ -1,4 +1,5 @@
--- An arena stands over a linked file: all that it names is there, and each object is what its layout says.
+-- An arena stands over a linked file: all that it names is there, and each object is what its layout says
+-- (profile: docs/MACHINE.md, "Heap and room").
 use Rattle.std.specs.Prelude.{◌≡◌, ◌≢◌, ℕ, ◌+◌, ◌<◌, ◌≤◌, List, [], ◌++◌, length, true, false, Option, Some, None, slice_get}
 use Rattle.abc_base.specs.declared.names.HostClass.{HostClass}
 use Rattle.abc_base.specs.declared.names.HostClass.TheVariants as hosts

@@ -1,4 +1,4 @@
--- The values with which the slots of a layout start.
+-- The values with which the slots of a layout start (profile: docs/MACHINE.md, "Heap and room").
 use Rattle.std.specs.Prelude.{◌≡◌, ℕ, zero, suc, ◌+◌, ◌<◌, ◌^◌, true, false, List, map, length, Some, slice_get}
 use Rattle.abc_base.specs.Ranges.{IsNumber}
 use Rattle.abc_heap_values.specs.declared.values.Span.{Span}

@@ -1,4 +1,4 @@
--- The declared traits of layouts, in file order.
+-- The declared traits of layouts, in file order (Overview, chapter 4, "Trait"; profile: docs/MACHINE.md, "The search").
 use Rattle.std.specs.Prelude.{ℕ, ◌+◌, List, [], ◌∷◌, ◌++◌, length, true, false, nat_eq, codes, Some, None, if◌then◌else◌}
 use Rattle.std.specs.declared.option.Option.{Option}
 use Rattle.abc_base.specs.declared.names.HostClass.TheVariants as hosts

@@ -1,4 +1,4 @@
--- Coercion of values to types.
+-- Coercion of values to types (Overview, chapter 5; profile: docs/MACHINE.md, "Values, conversions and operations").
 use Rattle.std.specs.Prelude.{◌≡◌, Bool, if◌then◌else◌, IsTrue, ◌↔◌, Ok, Err}
 use Rattle.std.specs.declared.result.Result.{Result}
 use Rattle.abc_base.specs.declared.names.HostClass.TheVariants as hosts

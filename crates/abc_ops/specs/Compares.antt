@@ -1,4 +1,4 @@
--- What the comparisons answer.
+-- What the comparisons answer (Overview, chapter 5; profile: docs/MACHINE.md, "Values, conversions and operations").
 use Rattle.std.specs.Prelude.{ℕ, Bool, Ok, Err}
 use Rattle.std.specs.declared.result.Result.{Result}
 use Rattle.abc_base.specs.declared.names.Fault.{Fault}

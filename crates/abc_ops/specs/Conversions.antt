@@ -1,4 +1,4 @@
--- The conversions of values.
+-- The conversions of values (Overview, chapter 5; profile: docs/MACHINE.md, "Values, conversions and operations").
 use Rattle.std.specs.Prelude.{true, false, if◌then◌else◌, Ok, Err}
 use Rattle.std.specs.Fmt.{signed_decimal}
 use Rattle.std.specs.declared.result.Result.{Result}

@@ -1,4 +1,4 @@
--- What an operation answers, and the heap that it leaves.
+-- What an operation answers, and the heap that it leaves (profile: docs/MACHINE.md, "Values, conversions and operations").
 use Rattle.std.specs.Prelude.{◌≡◌, ℕ, ℤ, ◌+◌, nat_le, List, ◌++◌, length, Bool, true, false, Ok, Err}
 use Rattle.std.specs.declared.result.Result.{Result}
 use Rattle.abc_base.specs.declared.names.Fault.{Fault}

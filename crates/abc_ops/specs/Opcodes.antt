@@ -1,4 +1,4 @@
--- The operations of opcodes.
+-- The operations of opcodes (Overview, chapter 5).
 use Rattle.std.specs.Prelude.{ℕ, nat_eq, if◌then◌else◌}
 use Rattle.abc_heap_values.specs.declared.operations.Operation.{Operation}
 use Rattle.abc_heap_values.specs.declared.operations.Operation.TheVariants as ops

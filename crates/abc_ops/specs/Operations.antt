@@ -1,4 +1,4 @@
--- What the opcodes compute of one value and of two.
+-- What the opcodes compute of one value and of two (Overview, chapter 5; profile: docs/MACHINE.md, "Values, conversions and operations").
 use Rattle.std.specs.Prelude.{ℕ, ◌||◌, ◌&&◌, not, nat_eq, ◌++◌, if◌then◌else◌}
 use Rattle.abc_heap_values.specs.declared.values.Span.{Span}
 use Rattle.abc_heap_values.specs.declared.values.Value.{Value}

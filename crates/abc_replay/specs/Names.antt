@@ -1,4 +1,4 @@
--- The names of the reasons why an input is no log.
+-- The names of the reasons why an input is no log (profile: docs/PROGRAM.md, "Logs").
 use Rattle.std.specs.Prelude.{ℕ, List, codes}
 use Rattle.abc_file_types.specs.Reasons.{reason_name as file_reason_name}
 use Rattle.abc_replay.specs.declared.error.ReplayReason.{ReplayReason}

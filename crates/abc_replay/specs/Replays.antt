@@ -1,4 +1,4 @@
--- What `replay` answers: how many steps the log of an input has, or why the input is none.
+-- What `replay` answers: how many steps the log of an input has, or why the input is none (profile: docs/PROGRAM.md, "Logs").
 use Rattle.std.specs.Prelude.{◌≡◌, ℕ, ◌+◌, ◌-◌, ◌^◌, ◌<◌, List, ◌++◌, Some, drop, length, min, take}
 use Rattle.abc_base.specs.declared.formula.Formula.{Formula}
 use Rattle.abc_log.specs.Followed.{parts_from}

@@ -1,5 +1,5 @@
--- A run, and then calls of a method with 0, 1 and so on, each on what the one before left, as one run: what is written, with a line for
--- each value, and how it ends.
+-- A run, and then calls of a method with 0, 1 and so on, each on what the one before left, as one run: what is written, with a line for each value,
+-- and how it ends (profile: docs/PROGRAM.md, "Words").
 use Rattle.std.specs.Prelude.{ℕ, zero, suc, ◌+◌, pos, List, [], ◌∷◌, ◌++◌, true, false, codes}
 use Rattle.std.specs.Fmt.{signed_decimal}
 use Rattle.abc_base.specs.declared.formula.Formula.{Formula}

@@ -34,6 +34,7 @@ pub record Spelled {A : Type 0} (p : Part A) (x : A) : Type 0 where
 
 -- ---- numbers
 
+-- Some bytes spell the number, and it is below 2^30.
 unfoldable pub IsNumber : ℕ → Type 0
 IsNumber x = Spelled u30 x
 
@@ -94,6 +95,7 @@ FitMultinames v xs = Spelled (multinames v.strings v.namespaces v.sets) xs
 abbrev pub pools_alone : Abc → Abc
 pools_alone v = record v { methods = []; metadata = []; instances = []; classes = []; scripts = []; bodies = [] }
 
+-- Some bytes spell the pools of the file.
 unfoldable pub FitPools : Abc → Type 0
 FitPools v = Spelled pools (pools_alone v)
 
@@ -131,6 +133,7 @@ FitsTraitMetadata v t = Spelled (when (has_flag t.attrs 4) [] (counted (index_be
 unfoldable pub FitsTrait : Sizes → TraitInfo → Type 0
 FitsTrait v t = Spelled (trait_info v) t
 
+-- Some bytes spell these traits, with their count before them.
 unfoldable pub FitTraits : Sizes → List TraitInfo → Type 0
 FitTraits v ts = Spelled (counted (trait_info v)) ts
 
@@ -162,6 +165,7 @@ pub record AreClasses (v : Sizes) (a : Abc) : Type 0 where
 abbrev pub without_bodies : Abc → Abc
 without_bodies v = record v { bodies = [] }
 
+-- Some bytes spell the definitions of the file, beside its pools.
 unfoldable pub FitDefinitions : Abc → Type 0
 FitDefinitions v = Spelled (definitions (pools_alone v)) (without_bodies v)
 
@@ -191,6 +195,7 @@ pub record HasParts (v : Sizes) (b : Body) : Type 0 where
 unfoldable pub FitsBody : Sizes → Body → Type 0
 FitsBody v b = Spelled (body_with v (index_below v.methods)) (b, canonical_starts b.code)
 
+-- Some bytes spell the bodies of the file, beside its pools and definitions.
 unfoldable pub FitBodies : Abc → Type 0
 FitBodies v = Spelled (bodies_alone (without_bodies v)) v
 

@@ -57,6 +57,7 @@ multiname_len (names.Multi attr name set) = 1 + number_len name + number_len set
 multiname_len (names.MultiL attr set) = 1 + number_len set
 multiname_len (names.TypeName base params) = 1 + number_len base + counted_len number_len params
 
+-- how many canonical bytes all pools have
 unfoldable pub pools_len : Abc → ℕ
 pools_len v =
     pool_len s32_len v.ints + pool_len number_len v.uints + pool_len double_len v.doubles + pool_len text_len v.strings + pool_len namespace_len v.namespaces
@@ -111,6 +112,7 @@ class_len c = number_len c.cinit + counted_len trait_len c.traits
 unfoldable pub script_len : Script → ℕ
 script_len s = number_len s.init + counted_len trait_len s.traits
 
+-- how many canonical bytes all definitions have
 unfoldable pub definitions_len : Abc → ℕ
 definitions_len v =
     counted_len method_len v.methods + counted_len metadata_len v.metadata + number_len (length v.classes) + sum_by instance_len v.instances
@@ -125,6 +127,7 @@ place_len starts t = number_len (get_or starts t 0)
 abbrev pub handler_len : List ℕ → Handler → ℕ
 handler_len starts h = place_len starts h.from + place_len starts h.to + place_len starts h.target + number_len h.exc_type + number_len h.var_name
 
+-- how many canonical bytes a body has
 unfoldable pub body_len : Body → ℕ
 body_len b =
     number_len b.method + number_len b.max_stack + number_len b.local_count + number_len b.init_scope + number_len b.max_scope

@@ -1,4 +1,4 @@
--- Which file a text is, and the first fault of a text that is none's.
+-- Which file a text is, and the first fault of a text that is none's (profile: docs/ASSEMBLY.md, "Lines" and "Why a text is refused").
 use Rattle.std.specs.Prelude.{◌≡◌, ℕ, ◌<◌, ◌≤◌, ◌^◌, ◌⊎◌, List, [], ◌∷◌, length, map, Some, None, option_to_list}
 use Rattle.std.specs.declared.option.Option.{Option}
 use Rattle.abc_text_lines.specs.declared.reason.AsmReason.TheVariants as reasons
@@ -26,6 +26,7 @@ pairs [] = []
 pairs (a ∷ []) = []
 pairs (a ∷ b ∷ items) = (a, b) ∷ pairs items
 
+-- the strings of such pairs, one after the other
 abbrev pub joined : List (ℕ × ℕ) → List ℕ
 joined [] = []
 joined (pair ∷ pairs) = pair.0 ∷ pair.1 ∷ joined pairs

@@ -1,4 +1,4 @@
--- Which lines are those of a value, and the first fault of lines that are none's.
+-- Which lines are those of a value, and the first fault of lines that are none's (profile: docs/ASSEMBLY.md, "Why a text is refused").
 use Rattle.std.specs.Prelude.{◌≡◌, ℕ, ◌≤◌, ◌⊎◌, nat_eq, List, [], ◌∷◌, ◌++◌, Ok, Err, if◌then◌else◌}
 use Rattle.std.specs.declared.result.Result.{Result}
 use Rattle.abc_text_lines.specs.declared.reason.AsmReason.{AsmReason}

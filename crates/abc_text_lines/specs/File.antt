@@ -1,4 +1,4 @@
--- The lines of a file: the one table that the assembler and the disassembler share.
+-- The lines of a file: the one table that the assembler and the disassembler share (profile: docs/ASSEMBLY.md, "Lines" and "Why a text is refused").
 use Rattle.std.specs.Prelude.{◌≡◌, ℕ, ◌-◌, ◌^◌, ℤ, Bool, true, false, ◌&&◌, ◌||◌, nat_eq, nat_le, IsSome, List, [], ◌∷◌, length, map, Ok, Err, if◌then◌else◌}
 use Rattle.std.specs.declared.option.Option.{Option}
 use Rattle.std.specs.declared.result.Result.{Result}

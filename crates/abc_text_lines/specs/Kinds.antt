@@ -1,4 +1,4 @@
--- The words that an assembly text has for kinds.
+-- The words that an assembly text has for kinds (profile: docs/ASSEMBLY.md, "Lines").
 use Rattle.std.specs.Prelude.{ℕ, true, false, List, [], ◌∷◌, codes}
 use Rattle.abc_file_types.specs.declared.names.NsKind.{NsKind}
 use Rattle.abc_file_types.specs.declared.names.NsKind.TheVariants as spaces
@@ -27,6 +27,7 @@ space_words =
     (codes "Private", spaces.Private) ∷ (codes "Namespace", spaces.Namespace) ∷ (codes "Package", spaces.Package) ∷ (codes "PackageInternal", spaces.PackageInternal) ∷
     (codes "Protected", spaces.Protected) ∷ (codes "Explicit", spaces.Explicit) ∷ (codes "StaticProtected", spaces.StaticProtected) ∷ []
 
+-- the word of a kind of namespace
 unfoldable pub space_kind : Operand NsKind
 space_kind = kind space_word (lookup space_words) spaces.Private
 
@@ -51,11 +52,13 @@ multiname_words =
     (codes "RTQNameL", names.RtL false) ∷ (codes "RTQNameLA", names.RtL true) ∷ (codes "Multiname", names.Multi false) ∷ (codes "MultinameA", names.Multi true) ∷
     (codes "MultinameL", names.MultiL false) ∷ (codes "MultinameLA", names.MultiL true) ∷ (codes "TypeName", names.TypeName) ∷ []
 
+-- the word of a kind of multiname; the kind says too whether it names an attribute
 unfoldable pub multiname_kind : Operand MultinameKind
 multiname_kind = kind multiname_word (lookup multiname_words) names.TypeName
 
 -- ---- optional values
 
+-- the word of a kind of optional value
 abbrev pub value_word : ValueKind → List ℕ
 value_word values.Undefined = codes "Undefined"
 value_word values.Utf8 = codes "Utf8"
@@ -80,6 +83,7 @@ value_words =
     (codes "Package", values.Package) ∷ (codes "PackageInternal", values.PackageInternal) ∷ (codes "Protected", values.Protected) ∷ (codes "Explicit", values.Explicit) ∷
     (codes "StaticProtected", values.StaticProtected) ∷ []
 
+-- such a word, as an operand
 unfoldable pub value_kind : Operand ValueKind
 value_kind = kind value_word (lookup value_words) values.Undefined
 
@@ -99,5 +103,6 @@ trait_words =
     (codes "slot", traits.Slot) ∷ (codes "const", traits.Const) ∷ (codes "method", traits.Method) ∷ (codes "getter", traits.Getter) ∷ (codes "setter", traits.Setter) ∷
     (codes "class", traits.Class) ∷ (codes "function", traits.Function) ∷ []
 
+-- the word of a kind of trait
 unfoldable pub trait_kind : Operand TraitKind
 trait_kind = kind trait_word (lookup trait_words) traits.Slot

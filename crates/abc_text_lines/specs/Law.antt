@@ -1,4 +1,4 @@
--- What a part of a text promises.
+-- What a part of a text promises (a tool of other definitions).
 use Rattle.std.specs.Prelude.{◌≡◌, ℕ, ◌≤◌, ◌⊎◌, true, false, List, [], ◌∷◌, ◌++◌, length, Some, None, Ok, Err}
 use Rattle.std.specs.List.{AllByRecursion}
 use Rattle.abc_text_lines.specs.declared.word.Word.{Word}

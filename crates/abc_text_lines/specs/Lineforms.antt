@@ -1,4 +1,4 @@
--- The operands of each line.
+-- The operands of each line (profile: docs/ASSEMBLY.md, "Lines" and "Code").
 use Rattle.std.specs.Prelude.{ℕ, zero, suc, ℤ, pos, negsuc, ◌^◌, true, false, List, [], ◌∷◌, Some, None}
 use Rattle.std.specs.declared.option.Option.{Option}
 use Rattle.abc_text_lines.specs.declared.reason.AsmReason.TheVariants as reasons
@@ -33,24 +33,31 @@ alone {A} p = seen (λ (x : A × Unit {0}). x.0) (λ (x : A). (x, tt)) (p & none
 
 -- ---- pools
 
+-- `abc`: the minor version 16, and the major version 46
 abbrev pub version_line : Operands (ℕ × (ℕ × Unit {0}))
 version_line = exactly 16 & (exactly 46 & none)
 
+-- `int`: a number from -2^31 to 2^31 - 1
 unfoldable pub int_line : Operands ℤ
 int_line = alone (signed_between (negsuc 2147483647) (pos 2147483647))
 
+-- `uint`: a number below 2^32
 unfoldable pub uint_line : Operands ℕ
 uint_line = alone (number_below (2 ^ 32))
 
+-- `double`: eight bytes
 unfoldable pub double_line : Operands Eight
 double_line = seen (λ x. record { 0 = x.0 }) (λ d. (d.0, tt)) (eight & none)
 
+-- `string`: a quoted text
 unfoldable pub string_line : Operands (List ℕ)
 string_line = alone text
 
+-- `ns`: a kind word, and the name, by the index of a string or 0
 unfoldable pub namespace_line : Sizes → Operands Namespace
 namespace_line v = seen (λ x. record { kind = x.0; name = x.1.0 }) (λ n. (n.kind, (n.name, tt))) (space_kind & (index_upto v.strings & none))
 
+-- `set`: any number of namespaces, each by its index, which isn't 0
 unfoldable pub set_line : Sizes → Operands (List ℕ)
 set_line v = several (entry_upto v.namespaces)
 
@@ -90,6 +97,7 @@ abbrev pub multiname_rest : Sizes → Option MultinameKind → Operands Multinam
 multiname_rest v (Some kind) = multiname_fields v kind
 multiname_rest v None = unseen (names.RtL false)
 
+-- `name`: a kind word, and the indices that multinames of the kind have
 unfoldable pub name_line : Sizes → Operands Multiname
 name_line v = seen (λ x. x.1) (λ m. (kind_in m, m)) (by multiname_kind (multiname_rest v))
 
@@ -101,9 +109,11 @@ pub record MethodHead : Type 0 where
   pub name : ℕ
   pub flags : ℕ
 
+-- `method`: the return type, by the index of a multiname or 0, the name, by the index of a string or 0, and the flags
 unfoldable pub method_line : Sizes → Operands MethodHead
 method_line v = seen (λ x. record { ret = x.0; name = x.1.0; flags = x.1.1.0 }) (λ m. (m.ret, (m.name, (m.flags, tt)))) (index_upto v.names & (index_upto v.strings & (number_below 256 & none)))
 
+-- `param`: the type of a parameter, by the index of a multiname or 0
 unfoldable pub param_line : Sizes → Operands ℕ
 param_line v = alone (index_upto v.names)
 
@@ -115,15 +125,19 @@ abbrev pub option_rest : Sizes → Option ValueKind → Operands (ℕ × Unit {0
 option_rest v (Some kind) = value_index v kind & none
 option_rest v None = u30 & none
 
+-- `option`: a kind word, and an index into the pool that the kind names
 unfoldable pub option_line : Sizes → Operands OptionValue
 option_line v = seen (λ x. record { kind = x.0; value = x.1.0 }) (λ o. (o.kind, (o.value, tt))) (by value_kind (option_rest v))
 
+-- `pname`: a number below 2^30, which need not be the index of a string
 unfoldable pub number_line : Operands ℕ
 number_line = alone u30
 
+-- `metadata`: the name, by the index of a string or 0
 unfoldable pub string_index_line : Sizes → Operands ℕ
 string_index_line v = alone (index_upto v.strings)
 
+-- `item`: two strings, each by its index or 0
 unfoldable pub entry_line : Sizes → Operands (ℕ × ℕ)
 entry_line v = seen (λ x. (x.0, x.1.0)) (λ e. (e.0, (e.1, tt))) (index_upto v.strings & (index_upto v.strings & none))
 
@@ -135,15 +149,19 @@ pub record InstanceHead : Type 0 where
   pub super_name : ℕ
   pub flags : ℕ
 
+-- `instance`: the name of a class and that of its base, each by the index of a multiname, which may be 0 for the base, and the flags
 unfoldable pub instance_line : Sizes → Operands InstanceHead
 instance_line v = seen (λ x. record { name = x.0; super_name = x.1.0; flags = x.1.1.0 }) (λ i. (i.name, (i.super_name, (i.flags, tt)))) (entry_upto v.names & (index_upto v.names & (number_below 256 & none)))
 
+-- `protected`: a namespace, by its index or 0
 unfoldable pub protected_line : Sizes → Operands ℕ
 protected_line v = alone (index_upto v.namespaces)
 
+-- `implements`: the name of an interface, by the index of a multiname
 unfoldable pub implements_line : Sizes → Operands ℕ
 implements_line v = alone (entry_upto v.names)
 
+-- `iinit`, `class` and `script`: the initializer, by the index of a method
 unfoldable pub method_index_line : Sizes → Operands ℕ
 method_index_line v = alone (index_below v.methods)
 
@@ -176,6 +194,7 @@ abbrev pub slot_value_in : Option OptionValue → ℕ × Option ValueKind
 slot_value_in None = (0, None)
 slot_value_in (Some o) = (o.value, Some o.kind)
 
+-- the value of a slot: an index, and behind an index that isn't 0 a kind word
 unfoldable pub slot_value : Sizes → Operands (Option OptionValue)
 slot_value v = seen slot_value_of slot_value_in (by u30 (slot_rest v))
 
@@ -211,9 +230,11 @@ abbrev pub trait_rest : Sizes → Option TraitKind → Operands TraitHead
 trait_rest v (Some kind) = seen (λ x. record { attrs = x.0; name = x.1.0; body = x.1.1 }) (λ t. (t.attrs, (t.name, t.body))) (number_below 16 & (entry_upto v.names & trait_fields v kind))
 trait_rest v None = unseen (record { attrs = 0; name = 0; body = bodies.Method 0 0 })
 
+-- `trait`: a kind word, the attributes, the name, by the index of a multiname, and the fields of the kind
 unfoldable pub trait_line : Sizes → Operands TraitHead
 trait_line v = seen (λ x. x.1) (λ t. (trait_kind_in t.body, t)) (by trait_kind (trait_rest v))
 
+-- `tmeta`: metadata of a trait, by its index
 unfoldable pub trait_metadata_line : Sizes → Operands ℕ
 trait_metadata_line v = alone (index_below v.metadata)
 
@@ -227,12 +248,14 @@ pub record BodyHead : Type 0 where
   pub init_scope : ℕ
   pub max_scope : ℕ
 
+-- `body`: the method, by its index, and four sizes
 unfoldable pub body_line : Sizes → Operands BodyHead
 body_line v =
     seen (λ x. record { method = x.0; max_stack = x.1.0; local_count = x.1.1.0; init_scope = x.1.1.1.0; max_scope = x.1.1.1.1.0 })
     (λ b. (b.method, (b.max_stack, (b.local_count, (b.init_scope, (b.max_scope, tt))))))
     (index_below v.methods & (u30 & (u30 & (u30 & (u30 & none)))))
 
+-- `catch`: three labels, and the type and the name of the variable, each by the index of a multiname or 0
 unfoldable pub catch_line : Sizes → Operands Handler
 catch_line v =
     seen (λ x. record { from = x.0; to = x.1.0; target = x.1.1.0; exc_type = x.1.1.1.0; var_name = x.1.1.1.1.0 })
@@ -300,5 +323,6 @@ abbrev pub by_form : ℕ → Option Form → Operands Instr
 by_form op (Some form) = instruction_fields op form
 by_form op None = no_instruction
 
+-- the line of an instruction: what follows the name that the opcode has
 unfoldable pub instruction_line : ℕ → Operands Instr
 instruction_line op = by_form op (form_at op)

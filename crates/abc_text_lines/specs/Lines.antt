@@ -1,4 +1,4 @@
--- The lines of a text as they are written, and the lines of a value as they are meant.
+-- The lines of a text as they are written, and the lines of a value as they are meant (profile: docs/ASSEMBLY.md, "Lines").
 use Rattle.std.specs.Prelude.{ℕ, ℤ, Bool, List, [], ◌∷◌, map}
 use Rattle.abc_text_lines.specs.declared.word.Word.{Word}
 use Rattle.abc_text_lines.specs.Tokens.{Token}

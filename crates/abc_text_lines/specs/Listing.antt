@@ -1,4 +1,4 @@
--- The one text of a file.
+-- The one text of a file (profile: docs/ASSEMBLY.md, "The text that `dis` writes").
 use Rattle.std.specs.Prelude.{ℕ, ◌-◌, ◌/◌, ◌%◌, ◌&&◌, nat_eq, nat_le, List, [], ◌∷◌, ◌++◌, codes, decimal, length, map, take, slice_get, Some, if◌then◌else◌}
 use Rattle.std.specs.Fmt.{signed_decimal}
 use Rattle.std.specs.List.{flat_map}
@@ -168,5 +168,6 @@ module _ (v : Abc) where
   abbrev pub body_text : Body → List ℕ
   body_text body = rendered v (flat_map targets_in (lines_of_body body)) (lines_of_body body)
 
+  -- the bytes of the one text of a file: the lines before the bodies, and then each body
   unfoldable pub listing : List ℕ
   listing = rendered v [] quiet_lines ++ flat_map body_text v.bodies

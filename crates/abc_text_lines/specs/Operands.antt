@@ -1,4 +1,5 @@
--- Operands: what a token may be where one is wanted, and lists of them.
+-- Operands: what a token may be where one is wanted, and lists of them
+-- (profile: docs/ASSEMBLY.md, "Bytes, lines and tokens" and "Why a text is refused").
 use Rattle.std.specs.Prelude.{◌≡◌, ℕ, zero, suc, ℤ, pos, negsuc, ◌+◌, ◌-◌, ◌*◌, ◌^◌, Bool, true, false, ◌&&◌, ◌||◌, nat_le, nat_lt, nat_eq, int_le, List, [], ◌∷◌, ◌++◌, length, slice_index, Some, None, Ok, Err, if◌then◌else◌}
 use Rattle.std.specs.List.{list_all}
 use Rattle.std.specs.Str.{bytes_eq}
@@ -11,6 +12,7 @@ use Rattle.abc_text_lines.specs.Lines.{Label, Item, Number, Signed, Text, Eight,
 
 -- ---- which token shows which operand
 
+-- `0` to `9`
 abbrev pub is_digit : ℕ → Bool
 is_digit byte = nat_le 48 byte && nat_le byte 57
 
@@ -91,6 +93,7 @@ any_number = record { item = Number; fits = λ n. Unit {0}; reads = λ labels to
 abbrev pub number_below : ℕ → Operand ℕ
 number_below bound = checked (λ n. nat_lt n bound) reasons.Range any_number
 
+-- a number below 2^30
 abbrev pub u30 : Operand ℕ
 u30 = number_below (2 ^ 30)
 
@@ -169,6 +172,7 @@ abbrev pub target_of : List Label → Token → Result ℕ AsmReason
 target_of labels (Bare word) = if is_name word then found_place (place_of_label labels word) else Err reasons.Kind
 target_of labels (Quoted bytes) = Err reasons.Kind
 
+-- a label of the line's body, as the number of the instruction that it stands for
 unfoldable pub target : Operand ℕ
 target = record { item = Target; fits = λ n. Unit {0}; reads = target_of; default = 0 }
 
@@ -190,6 +194,7 @@ abbrev pub reasons_in : {A : Type 0} → Result A AsmReason → List AsmReason
 reasons_in (Ok x) = []
 reasons_in (Err r) = r ∷ []
 
+-- the value that was read, or a default where there is a fault
 abbrev pub value_or : {A : Type 0} → Result A AsmReason → A → A
 value_or (Ok x) default = x
 value_or (Err r) default = default

@@ -1,4 +1,4 @@
--- The reasons in their order, and the first of some.
+-- The reasons in their order, and the first of some (profile: docs/ASSEMBLY.md, "Why a text is refused").
 use Rattle.std.specs.Prelude.{ℕ, List, [], ◌∷◌, Some, None, codes, nat_le, if◌then◌else◌}
 use Rattle.std.specs.declared.option.Option.{Option}
 use Rattle.abc_text_lines.specs.declared.reason.AsmReason.{AsmReason}
@@ -22,6 +22,7 @@ rank reasons.SecondBody = 13
 rank reasons.FileTooLong = 14
 rank reasons.TextTooLong = 15
 
+-- the name of a reason, as error lines show it
 abbrev pub reason_name : AsmReason → List ℕ
 reason_name reasons.Text = codes "Text"
 reason_name reasons.Word = codes "Word"

@@ -1,4 +1,4 @@
--- Parts of a text: which lines a value has, and how lines are read.
+-- Parts of a text: which lines a value has, and how lines are read (a tool of other definitions).
 use Rattle.std.specs.Prelude.{ℕ, zero, suc, ◌+◌, Bool, true, false, nat_eq, List, [], ◌∷◌, ◌++◌, Some, None, Ok, Err, if◌then◌else◌}
 use Rattle.std.specs.declared.option.Option.{Option}
 use Rattle.std.specs.declared.result.Result.{Result}
@@ -9,6 +9,7 @@ use Rattle.abc_text_lines.specs.Reasons.{least}
 use Rattle.abc_text_lines.specs.Words.{place_of}
 use Rattle.abc_text_lines.specs.Lines.{Row, Item, Shown, Line, Labels}
 
+-- Why a text is refused: the number of a line, and the reason there.
 pub record Fault : Type 0 where
   pub line : ℕ
   pub reason : AsmReason

@@ -1,4 +1,4 @@
--- The tokens of a line, as one walk over its bytes finds them.
+-- The tokens of a line, as one walk over its bytes finds them (profile: docs/ASSEMBLY.md, "Bytes, lines and tokens").
 use Rattle.std.specs.Prelude.{ℕ, Bool, true, false, nat_eq, List, [], ◌∷◌, ◌++◌, if◌then◌else◌}
 use Rattle.abc_text_lines.specs.Tokens.{Token, Bare, Quoted, backslash, hex_pair, is_blank, is_hex, quote, semicolon}
 
@@ -15,12 +15,14 @@ pub record Scan : Type 0 where
   pub tokens : List Token
   pub broken : Bool
 
+-- some tokens, after which the line is broken or not
 abbrev pub scanned : Bool → List Token → Scan
 scanned broken tokens = record { tokens = tokens; broken = broken }
 
 abbrev pub also : Token → Scan → Scan
 also token rest = scanned rest.broken (token ∷ rest.tokens)
 
+-- what the bytes that are left of a line give, of which the first stands within this: tokens, and whether the line is broken after them
 unfoldable pub scan : List ℕ → Within → Scan
 scan [] Between = scanned false []
 scan [] (InRun word) = scanned false (Bare word ∷ [])

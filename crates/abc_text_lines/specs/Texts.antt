@@ -1,4 +1,4 @@
--- From the bytes of a text to its lines.
+-- From the bytes of a text to its lines (profile: docs/ASSEMBLY.md, "Bytes, lines and tokens" and "Code").
 use Rattle.std.specs.Prelude.{ℕ, ◌+◌, Bool, true, false, nat_eq, List, [], ◌∷◌, ◌++◌, codes, Some, None, if◌then◌else◌}
 use Rattle.std.specs.Str.{bytes_eq}
 use Rattle.std.specs.declared.option.Option.{Option}
@@ -118,6 +118,7 @@ abbrev pub labels_set : ℕ → List Raw → List Label
 labels_set n [] = []
 labels_set n (raw ∷ raws) = by_step (step_of raw.word) [] (record { name = raw.name; number = n } ∷ labels_set n raws) (labels_set (n + 1) raws) (labels_set n raws)
 
+-- the name is one of the others
 abbrev pub is_among : List ℕ → List (List ℕ) → Bool
 is_among name [] = false
 is_among name (other ∷ others) = if bytes_eq other name then true else is_among name others
@@ -165,5 +166,6 @@ sizes_in rows = record {
   classes = count_all 20 rows;
 }
 
+-- how many instances a text has, by its lines
 abbrev pub instances_in : List Row → ℕ
 instances_in rows = count_all 14 rows

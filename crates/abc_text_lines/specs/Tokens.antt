@@ -1,4 +1,4 @@
--- The tokens of a line.
+-- The tokens of a line (profile: docs/ASSEMBLY.md, "Bytes, lines and tokens").
 use Rattle.std.specs.Prelude.{◌≡◌, ℕ, ◌+◌, ◌-◌, ◌*◌, ◌⊎◌, Bool, true, false, ◌&&◌, ◌||◌, not, nat_eq, nat_le, List, [], ◌∷◌, ◌++◌, if◌then◌else◌}
 use Rattle.std.specs.List.{AllByRecursion}
 

@@ -1,4 +1,5 @@
--- The faults of a line by its word, and parts that are lines of one word.
+-- The faults of a line by its word, and parts that are lines of one word
+-- (a tool of other definitions; profile: docs/ASSEMBLY.md, "Why a text is refused").
 use Rattle.std.specs.Prelude.{ℕ, ◌+◌, Bool, true, false, nat_eq, List, [], ◌∷◌, ◌++◌, map, Some, None, if◌then◌else◌}
 use Rattle.std.specs.Str.{bytes_eq}
 use Rattle.std.specs.declared.option.Option.{Option}

@@ -1,4 +1,4 @@
--- Where the lines of a text stand among each other.
+-- Where the lines of a text stand among each other (profile: docs/ASSEMBLY.md, "Lines").
 use Rattle.std.specs.Prelude.{ℕ}
 use Rattle.abc_text_lines.specs.declared.word.Word.{Word}
 use Rattle.abc_text_lines.specs.declared.word.Word.TheVariants as words

@@ -1,4 +1,4 @@
--- How tokens are written.
+-- How tokens are written (profile: docs/ASSEMBLY.md, "The text that `dis` writes").
 use Rattle.std.specs.Prelude.{◌≡◌, ℕ, ◌<◌, ◌⊎◌, true, List, [], ◌∷◌, ◌++◌}
 use Rattle.std.specs.List.{AllByRecursion}
 use Rattle.abc_base.specs.Escapes.{escaped}
@@ -24,6 +24,7 @@ IsWritable (Bare []) = ⊥
 IsWritable (Bare (byte ∷ bytes)) = AllByRecursion (λ b. is_run_byte b ≡ true) (byte ∷ bytes)
 IsWritable (Quoted text) = AllByRecursion (λ b. b < 256) text
 
+-- each token is one that a line can have: no bare word is empty or has a byte that words don't have, and quoted texts are bytes
 abbrev pub AreWritable : List Token → Type 0
 AreWritable tokens = AllByRecursion IsWritable tokens
 

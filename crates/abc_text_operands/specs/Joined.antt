@@ -8,6 +8,7 @@ use Rattle.abc_text_lines.specs.Firsts.{told}
 use Rattle.abc_text_lines.specs.Lines.{Label}
 use Rattle.abc_text_lines.specs.Operands.{Operands, reasons_of}
 
+-- the reason r, or the reason of the result where that one is tried earlier
 abbrev pub earlier : {B : Type 0} → AsmReason → Result B AsmReason → AsmReason
 earlier r (Ok y) = r
 earlier r (Err s) = if nat_le (rank r) (rank s) then r else s
@@ -18,6 +19,7 @@ joined (Ok x) (Ok y) = Ok (x, y)
 joined (Ok x) (Err s) = Err s
 joined (Err r) s = Err (earlier r s)
 
+-- a value as another; a fault stays
 abbrev pub mapped : {A B : Type 0} → (A → B) → Result A AsmReason → Result B AsmReason
 mapped f (Ok x) = Ok (f x)
 mapped f (Err r) = Err r

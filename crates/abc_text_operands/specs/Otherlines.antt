@@ -8,6 +8,7 @@ use Rattle.abc_file_types.specs.declared.traits.TraitKind.{TraitKind}
 use Rattle.abc_text_lines.specs.Operands.{number_below, value_or}
 use Rattle.abc_text_lines.specs.Kinds.{trait_kind}
 
+-- the two numbers of a version, as the operands of its line have them
 abbrev pub as_version : ℕ × ℕ → ℕ × (ℕ × Unit {0})
 as_version x = (x.0, (x.1, tt))
 

@@ -60,6 +60,7 @@ items_read word item (suc n) (row ∷ rows) =
     (item row rows >>= λ x. items_read word item n x.1 >>= λ xs. Ok (x.0 ∷ xs.0, xs.1))
     else Ok ([], row ∷ rows)
 
+-- all lines of a word that come, each with what is below it
 abbrev pub all_items : {A : Type 0} → Word → Item A → Part (List A)
 all_items word item v instances n rows = items_read word (item v instances n) n rows
 
@@ -67,6 +68,7 @@ all_items word item v instances n rows = items_read word (item v instances n) n 
 abbrev pub item_of : {H B A : Type 0} → Faults → (List Label → List Token → H) → (List Row → Result (B × List Row) Fault) → (H → B → A) → Row → List Row → Result (A × List Row) Fault
 item_of told_faults value below make row rows = unless (least (told_faults row rows)) row.number (below rows >>= λ y. Ok (make (value row.labels row.operands) y.0, y.1))
 
+-- a line and the part below it: `value` is that of the line, and `make` joins it to that of the part
 abbrev pub headed_item : {H B A : Type 0} → (Sizes → List Label → List Token → H) → Part B → (H → B → A) → Item A
 headed_item value below make v instances n = item_of (faults v instances) (value v) (below v instances n) make
 
@@ -89,6 +91,7 @@ lone told_faults value row rows = unless (least (told_faults row rows)) row.numb
 abbrev pub lone_item : {A : Type 0} → (Sizes → List Label → List Token → A) → Item A
 lone_item value v instances n = lone (faults v instances) (value v)
 
+-- all lines of a word that come, where nothing is below them
 abbrev pub lone_items : {A : Type 0} → Word → (Sizes → List Label → List Token → A) → Part (List A)
 lone_items word value = all_items word (lone_item value)
 
@@ -105,6 +108,7 @@ line_says word value v instances labels tokens = told (least (own v instances wo
 
 -- ---- a line's value, or the error at it
 
+-- what the operands of a line say, with the line's number where they have a fault
 abbrev pub valued_at : {A : Type 0} → ℕ → Result A AsmReason → Result A AsmError
 valued_at line (Ok x) = Ok x
 valued_at line (Err r) = Err (errors.Refused line r)
@@ -113,6 +117,7 @@ abbrev pub error_at : ℕ → LineError → AsmError
 error_at line (lines.Refused reason) = errors.Refused line reason
 error_at line lines.NoMemory = errors.NoMemory
 
+-- what was made of a line, with the line's number where it is refused
 abbrev pub made_at : {A : Type 0} → ℕ → Result A LineError → Result A AsmError
 made_at line (Ok x) = Ok x
 made_at line (Err e) = Err (error_at line e)

@@ -35,6 +35,7 @@ set_now r = stood r.places r.met r.set
 unfoldable pub rows_left : Reader → List Row
 rows_left r = rows_from (labels_now r.body) (set_now r) r.bodied (raws_at r.next)
 
+-- the word of the next line, if there is one
 abbrev pub word_next : List Row → Option Word
 word_next [] = None
 word_next (row ∷ rows) = Some row.word

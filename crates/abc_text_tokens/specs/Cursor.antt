@@ -24,6 +24,7 @@ head_of [] false = None
 head_of [] true = Some words.Unknown
 head_of (token ∷ tokens) broken = Some (token_word token)
 
+-- the word of a line, by what a scan of it found; a line without tokens has none, unless it is broken
 abbrev pub head_in : Scan → Option Word
 head_in s = head_of s.tokens s.broken
 
@@ -60,6 +61,7 @@ abbrev pub most_lines : Option Line → ℕ
 most_lines None = 0
 most_lines (Some line) = 1 + length line.rest.now
 
+-- the numbers of all lines behind the next one, if there is one, are 32 bits wide
 abbrev pub AreNumbered : Option Line → Type 0
 AreNumbered None = Unit {0}
 AreNumbered (Some line) = IsNumbered line

@@ -6,5 +6,6 @@ use Rattle.abc_text_tokens.specs.declared.entries.Entry.{Entry}
 abbrev pub IsRight : Entry → Type 0
 IsRight entry = entry.word ≡ word_of entry.name.now
 
+-- each word stands with what it says
 abbrev pub AreRight : List Entry → Type 0
 AreRight entries = All IsRight entries

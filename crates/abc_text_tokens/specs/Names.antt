@@ -37,6 +37,7 @@ abbrev pub opcode_in : List (ℕ × List ℕ) → List ℕ → Option ℕ
 opcode_in [] name = None
 opcode_in (row ∷ rows) name = if bytes_eq row.1 name then Some row.0 else opcode_in rows name
 
+-- the map has the opcode of each instruction by its name, and nothing by other names
 abbrev pub KnowsOpcodes : NameMap ℕ → Type 0
 KnowsOpcodes m = (name : List ℕ) → found m name ≡ opcode_in named name
 

@@ -31,10 +31,12 @@ meant (byte ∷ []) = byte ∷ []
 meant (byte ∷ high ∷ []) = byte ∷ high ∷ []
 meant (byte ∷ high ∷ low ∷ rest) = if nat_eq byte backslash && (is_hex high && is_hex low) then hex_pair high low ∷ meant rest else byte ∷ meant (high ∷ low ∷ rest)
 
+-- a token of the code, as the definitions have it: a quoted text by what its bytes mean
 abbrev pub token_of : Token → text.Token
 token_of (tokens.Bare run) = Bare run.now
 token_of (tokens.Quoted quoted) = Quoted (meant quoted.now)
 
+-- the same of some tokens
 abbrev pub tokens_of : List Token → List text.Token
 tokens_of ts = map token_of ts
 

@@ -10,5 +10,6 @@ numbers ns = flat_map (λ n. 0x20 ∷ decimal n) ns
 abbrev pub number_line : List ℕ → ℕ → List ℕ
 number_line word n = word ++ (0x20 ∷ (decimal n ++ 0x0a ∷ []))
 
+-- a line of the word for each number
 abbrev pub number_lines : List ℕ → List ℕ → List ℕ
 number_lines word ns = flat_map (number_line word) ns

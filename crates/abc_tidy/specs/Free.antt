@@ -1,4 +1,5 @@
--- The free form of a file: its definitions and bodies with things in place of indices into pools, and no pools.
+-- The free form of a file: its definitions and bodies with things in place of indices into pools, and no pools
+-- (profile: docs/TIDYING.md, "The free form").
 use Rattle.std.specs.Prelude.{◌≡◌, ℕ, List, [], ◌∷◌, nat_eq, if◌then◌else◌}
 use Rattle.std.specs.List.{flat_map}
 use Rattle.abc_tidy_refs.specs.Renumbered.{Renumbering, beside, new_file}

@@ -1,5 +1,5 @@
--- The things that the indices of a file stand for: what an entry is by itself, and under it the things of the entries that
--- its own indices name, in order. No index stands in a thing.
+-- The things that the indices of a file stand for: what an entry is by itself, and under it the things of the entries that its own indices name, in
+-- order. No index stands in a thing (profile: docs/TIDYING.md, "The free form").
 use Rattle.std.specs.Prelude.{ℕ, ℤ, ◌+◌, List, [], ◌∷◌, ◌++◌, map, get_or, nat_eq}
 use Rattle.abc_tidy_refs.specs.declared.nodes.Counts.{Counts}
 use Rattle.abc_tidy_refs.specs.Nodes.{counts_of}

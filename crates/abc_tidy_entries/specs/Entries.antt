@@ -1,4 +1,5 @@
--- The entries of a file's pools as nodes: what each is by itself, and the entries that its indices name, in order.
+-- The entries of a file's pools as nodes: what each is by itself, and the entries that its indices name, in order
+-- (profile: docs/TIDYING.md, "When two entries are one").
 use Rattle.std.specs.Prelude.{ℕ, ◌+◌, Bool, List, [], ◌∷◌, ◌++◌, map, unwrap_or, nat_eq}
 use Rattle.std.specs.Ordering.{int_eq}
 use Rattle.std.specs.Cmp.Lexicographic.{pointwise}
@@ -115,6 +116,7 @@ no_parts xs = map (λ x. []) xs
 abbrev pub value_graph : Abc → List (List ℕ)
 value_graph v = ([] ∷ []) ++ no_parts (int_places v) ++ no_parts (uint_places v) ++ no_parts (double_places v) ++ no_parts (text_places v)
 
+-- for each node those that its entry names; node 0, numbers, doubles and strings name none
 abbrev pub graph_of : Abc → List (List ℕ)
 graph_of v =
     value_graph v ++ map (space_parts (counts_of v)) v.namespaces ++ map (set_parts (counts_of v)) v.sets ++ map (name_parts (counts_of v)) v.names

@@ -12,6 +12,7 @@ abbrev pub IsFirst : {A : Type 0} → (A → Type 0) → List A → Option ℕ �
 IsFirst P xs None = (i : ℕ) → IsBroken P xs i → ⊥
 IsFirst P xs (Some i) = IsBroken P xs i × HoldBelow P xs i
 
+-- the index of the first name that is cyclic, or none where none is
 abbrev pub IsFirstCyclic : Abc → Option ℕ → Type 0
 IsFirstCyclic v None = (i : ℕ) → IsCyclic v i → ⊥
 IsFirstCyclic v (Some i) = IsCyclic v i × ((j : ℕ) → j < i → IsCyclic v j → ⊥)

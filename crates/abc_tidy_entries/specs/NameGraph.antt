@@ -1,5 +1,5 @@
--- The names of a file as nodes by their indices: a type name leads to its base and its parameters, and node 0, which is no
--- name, leads to the names that the definitions and bodies name.
+-- The names of a file as nodes by their indices: a type name leads to its base and its parameters, and node 0, which is no name, leads to the names
+-- that the definitions and bodies name (profile: docs/TIDYING.md, "What is refused").
 use Rattle.std.specs.Prelude.{ℕ, ◌&&◌, Bool, not, List, [], ◌∷◌, map, filter, length, nat_eq, nat_le}
 use Rattle.std.specs.List.{flat_map}
 use Rattle.abc_tidy_refs.specs.declared.refs.Ref.{Ref}

@@ -1,5 +1,5 @@
--- The pools of a tidied file: the entries that were met, pool by pool in the order in which they were met, each with new
--- numbers in place of its indices.
+-- The pools of a tidied file: the entries that were met, pool by pool in the order in which they were met, each with new numbers in place of its
+-- indices (profile: docs/TIDYING.md, "The visit").
 use Rattle.std.specs.Prelude.{ℕ, ◌+◌, ◌-◌, List, [], map, nat_lt, slice_get, if◌then◌else◌}
 use Rattle.std.specs.List.{flat_map}
 use Rattle.std.specs.Option.{option_to_list}
@@ -52,5 +52,6 @@ pools_over w f v seen = let c = f.counts in record w {
   names = map (new_name f) (picked (c.ints + c.uints + c.doubles + c.strings + c.namespaces + c.sets) v.names seen);
 }
 
+-- a file that has nothing but the pools of the entries that were met, with new numbers
 abbrev pub new_pools : Numbers → Abc → List ℕ → Abc
 new_pools = pools_over empty

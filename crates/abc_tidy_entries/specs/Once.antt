@@ -14,6 +14,7 @@ abbrev pub with_all : List ℕ → List ℕ → List ℕ
 with_all ys [] = ys
 with_all ys (x ∷ xs) = with_all (with_one ys x) xs
 
+-- the numbers of a list, each once, where it first stands
 abbrev pub once : List ℕ → List ℕ
 once xs = with_all [] xs
 

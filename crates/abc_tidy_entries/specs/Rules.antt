@@ -1,4 +1,4 @@
--- The rules of tidying, each with what breaks it, and the first that is broken.
+-- The rules of tidying, each with what breaks it, and the first that is broken (profile: docs/TIDYING.md, "What is refused").
 use Rattle.std.specs.Prelude.{◌≡◌, ℕ, ◌<◌, ◌≤◌, List, All, Bool, true, false, codes, length, get_or}
 use Rattle.std.specs.List.{flat_map}
 use Rattle.abc_base_graphs.specs.Graph.{Leads, Returns}
@@ -18,6 +18,7 @@ use Rattle.abc_tidy_entries.specs.declared.error.TidyRule.TheVariants as rules
 use Rattle.abc_tidy_entries.specs.NameGraph.{name_graph}
 use Rattle.abc_tidy_entries.specs.Visited.{IsTidiedValue}
 
+-- the name of a rule, as error lines show it
 abbrev pub rule_name : TidyRule → List ℕ
 rule_name rules.Operand = codes "Operand"
 rule_name rules.ParamName = codes "ParamName"
@@ -81,6 +82,7 @@ Breaks v rules.ParamName i = IsBroken (MethodHolds v) v.methods i
 Breaks v rules.NameCycle i = IsCyclic v i
 Breaks v rules.TooLarge i = IsTooLarge v i
 
+-- Nothing breaks the rule.
 abbrev pub Holds : Abc → TidyRule → Type 0
 Holds v rule = (i : ℕ) → Breaks v rule i → ⊥
 
@@ -96,6 +98,7 @@ pub record IsFirstBroken (v : Abc) (rule : TidyRule) (i : ℕ) : Type 0 where
   pub broken : Breaks v rule i
   pub least : (j : ℕ) → j < i → Breaks v rule j → ⊥
 
+-- If the error is a refusal, its rule is the first that is broken, at its least index.
 abbrev pub IsTidyError : Abc → TidyError → Type 0
 IsTidyError v (errors.Refused rule index) = IsFirstBroken v rule index
 IsTidyError v errors.NoMemory = Unit {0}

@@ -1,4 +1,4 @@
--- The visit of a file, and its tidied value.
+-- The visit of a file, and its tidied value (profile: docs/TIDYING.md, "The visit").
 use Rattle.std.specs.Prelude.{◌≡◌, ℕ, ◌+◌, ◌<◌, ◌⊎◌, All, Bool, List, map, take, length, count_by, get_or, nat_eq, nat_le, if◌then◌else◌}
 use Rattle.abc_base_graphs.specs.Graph.{targets}
 use Rattle.abc_tidy_refs.specs.declared.nodes.Counts.{Counts}

@@ -1,5 +1,5 @@
--- The entries of all pools as nodes, numbered one after the other: node 0 stands for every index 0 and for every index of
--- no entry, and then come the entries of the pools in file order.
+-- The entries of all pools as nodes, numbered one after the other: node 0 stands for every index 0 and for every index of no entry, and then come the
+-- entries of the pools in file order (profile: docs/TIDYING.md, "What an index names" and "What is refused").
 use Rattle.std.specs.Prelude.{ℕ, ◌+◌, ◌<◌, ◌^◌, List, length, nat_eq, nat_le, get_or, if◌then◌else◌}
 use Rattle.abc_tidy_refs.specs.declared.nodes.Counts.{Counts}
 use Rattle.abc_tidy_refs.specs.declared.nodes.Numbers.{Numbers}
@@ -19,6 +19,7 @@ counts_of v = record {
   names = length v.names;
 }
 
+-- how many nodes there are: node 0, and one for each entry
 abbrev pub node_count : Counts → ℕ
 node_count c = c.ints + c.uints + c.doubles + c.strings + c.namespaces + c.sets + c.names + 1
 
@@ -26,9 +27,11 @@ node_count c = c.ints + c.uints + c.doubles + c.strings + c.namespaces + c.sets 
 abbrev pub node_at : ℕ → ℕ → ℕ → ℕ
 node_at before size index = if nat_eq index 0 then 0 else if nat_le index size then before + index else 0
 
+-- the node of the index of a set; it is 0 where there is no such set
 abbrev pub set_node : Counts → ℕ → ℕ
 set_node c index = node_at (c.ints + c.uints + c.doubles + c.strings + c.namespaces) c.sets index
 
+-- the node of an index into a pool; it is 0 where the index is of no entry
 abbrev pub node_of : Counts → Pool → ℕ → ℕ
 node_of c pools.NoPool index = 0
 node_of c pools.Int index = node_at 0 c.ints index
@@ -50,5 +53,6 @@ number_in n pools.Text index = get_or n.numbers (node_of n.counts pools.Text ind
 number_in n pools.Space index = get_or n.numbers (node_of n.counts pools.Space index) 0
 number_in n pools.Name index = get_or n.numbers (node_of n.counts pools.Name index) 0
 
+-- the new index for the index of a set
 abbrev pub set_number_in : Numbers → ℕ → ℕ
 set_number_in n index = get_or n.numbers (set_node n.counts index) 0

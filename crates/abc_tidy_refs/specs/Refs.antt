@@ -1,4 +1,4 @@
--- The indices of a file's definitions and bodies that name entries of its pools, in file order.
+-- The indices of a file's definitions and bodies that name entries of its pools, in file order (profile: docs/TIDYING.md, "What an index names").
 use Rattle.std.specs.Prelude.{ℕ, List, [], ◌∷◌, ◌++◌, map, Some, None}
 use Rattle.std.specs.declared.option.Option.{Option}
 use Rattle.std.specs.List.{flat_map}
@@ -105,6 +105,7 @@ pool_in None = pools.NoPool
 abbrev pub operand_pool : ℕ → Pool
 operand_pool op = pool_in (info_at op)
 
+-- the first operand of an instruction, and of `debug` the second, with the pool that it names, which may be none
 abbrev pub instr_refs : Instr → List Ref
 instr_refs (instrs.Plain op) = []
 instr_refs (instrs.One op n) = ref (operand_pool op) n ∷ []
@@ -124,6 +125,7 @@ body_refs b = flat_map instr_refs b.code ++ flat_map handler_refs b.handlers ++ 
 
 -- ---- the whole file
 
+-- the indices of all definitions and bodies of a file, in file order
 abbrev pub file_refs : Abc → List Ref
 file_refs v =
     flat_map method_refs v.methods ++ flat_map metadata_refs v.metadata ++ flat_map instance_refs v.instances ++ flat_map class_refs v.classes

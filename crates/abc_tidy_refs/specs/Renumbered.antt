@@ -1,4 +1,4 @@
--- Definitions and bodies with new numbers in place of their indices into pools. `f` gives the number for an index.
+-- Definitions and bodies with new numbers in place of their indices into pools. `f` gives the number for an index (profile: docs/TIDYING.md).
 use Rattle.std.specs.Prelude.{ℕ, List, map, Some, None}
 use Rattle.std.specs.declared.option.Option.{Option}
 use Rattle.std.specs.Option.{option_map}

@@ -1,4 +1,4 @@
--- Why an input gives no verified file.
+-- Why an input gives no verified file (profile: docs/PROGRAM.md, "Statuses").
 use Rattle.std.specs.Prelude.{◌≡◌, ◌<◌, ℕ, List, [], get_or, length}
 use Rattle.abc_file_types.specs.Part.{refusal}
 use Rattle.abc_file_types.specs.declared.reason.Reason.{Reason}
@@ -37,10 +37,12 @@ pub data IsRefused (input : List ℕ) : VerifiedError → Type 0 where
 
 -- ---- answers, where want of memory is free, and a failed read has another cause
 
+-- the error says why the file isn't verified, or is want of memory
 abbrev pub IsUnverifiedBy : Abc → List (List ℕ) → VerifiedError → Type 0
 IsUnverifiedBy v starts errors.NoMemory = Unit {0}
 IsUnverifiedBy v starts e = IsUnverified v starts e
 
+-- the error says why the input is no verified file, or is want of memory or a failed read
 abbrev pub IsRefusedBy : List ℕ → VerifiedError → Type 0
 IsRefusedBy input errors.NoMemory = Unit {0}
 IsRefusedBy input errors.ReadFault = Unit {0}

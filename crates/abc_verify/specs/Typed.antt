@@ -1,4 +1,4 @@
--- What it is that a file is verified.
+-- What it is that a file is verified (profile: docs/VERIFYING.md, "Typings").
 use Rattle.std.specs.Prelude.{◌≡◌, ℕ, ◌<◌, Some, length}
 use Rattle.abc_link_names.specs.Linked.{LinkedFile}
 use Rattle.abc_link_names.specs.Owners.{body_of}

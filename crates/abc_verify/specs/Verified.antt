@@ -1,4 +1,4 @@
--- What a verified file is.
+-- What a verified file is (profile: docs/VERIFYING.md, "Typings").
 use Rattle.std.specs.Prelude.{◌≡◌, ℕ, List}
 use Rattle.abc_link_layouts.specs.Numbering.{IsNumbered}
 use Rattle.abc_link_names.specs.Linked.{IsLinkedFile, LinkedFile}

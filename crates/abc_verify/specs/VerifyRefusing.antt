@@ -1,4 +1,4 @@
--- What a refusal says.
+-- What a refusal says (profile: docs/VERIFYING.md, "Typings").
 use Rattle.std.specs.Prelude.{◌≡◌, ℕ, ◌<◌, Some, length}
 use Rattle.abc_verify_flow.specs.declared.step.Refusal.{Refusal}
 use Rattle.abc_verify_flow.specs.declared.step.Refusal.TheVariants as flows

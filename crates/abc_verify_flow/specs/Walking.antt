@@ -66,11 +66,13 @@ abbrev pub IsTriedAt : LinkedFile → Routine → ℕ → State → State → Tr
 IsTriedAt p m i old new (trials.Breaks r) = broken p m i old ≡ Some r
 IsTriedAt p m i old new (trials.Steps w) = IsFine p m i old × Steps p m i old new w
 
+-- Of merging the state n into `old`: n is at most `old`; or j is their join, and can rise less far; or they have not one shape.
 abbrev pub MergesTo : LinkedFile → State → State → State → Merged → Type 0
 MergesTo p old n j Same = StateLe p n old
 MergesTo p old n j Joined = IsJoinState p old n j × (rank (layouts p) j < rank (layouts p) old)
 MergesTo p old n j Unequal = HasOneShape old n → ⊥
 
+-- If the answer is a refusal, its rule refutes the method at its index.
 abbrev pub RefusedBy : LinkedFile → Routine → Refusal → Type 0
 RefusedBy p m (Refused i r) = Refutes p m i r
 RefusedBy p m NoMemory = Unit {0}

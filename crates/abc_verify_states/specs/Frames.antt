@@ -7,6 +7,7 @@ use Rattle.abc_verify_typing.specs.Routines.{Routine, or_any, type_at}
 use Rattle.abc_verify_typing.specs.declared.catch.Catch.{Catch}
 use Rattle.abc_verify_states.specs.declared.frame.Frame.{Frame}
 
+-- what the code holds of a method, as a routine
 abbrev pub routine_in : Frame → Routine
 routine_in f = record {
   filled = f.filled;

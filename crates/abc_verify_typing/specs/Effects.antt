@@ -1,4 +1,4 @@
--- What an instruction does to a state, by its row.
+-- What an instruction does to a state, by its row (Overview, chapter 5; profile: docs/VERIFYING.md, "Instructions").
 use Rattle.std.specs.Prelude.{ℕ, ◌+◌, ◌-◌, ◌*◌, List, [], ◌∷◌, ◌++◌, Bool, true, false, cond, not, ◌&&◌, leb, ltb, Option, Some, None, length, take, drop, set, map, flat_map, filter, slice_get}
 use Rattle.abc_link_names.specs.declared.types.Kind.{Kind}
 use Rattle.abc_link_names.specs.declared.types.Kind.TheVariants.{Any, Undef, Null, Num, Bool as Truth, Text, Space, Obj}
@@ -102,10 +102,12 @@ is_null k = false
 abbrev pub goes_on : List Need → List Kind → Bool
 goes_on needs kinds = not (is_null (receiver needs kinds))
 
+-- the kind of the slot of number j of a value of this kind; Any where that isn't known
 abbrev pub slot_kind : LinkedFile → ℕ → Kind → Kind
 slot_kind p j (Obj l) = or_any (slot p l.0 j)
 slot_kind p j k = Any
 
+-- the kind of a sum: Num of two that are Num or Bool, and else Any
 abbrev pub sum_kind : Kind → Kind → Kind
 sum_kind Num Num = Num
 sum_kind Num Truth = Num

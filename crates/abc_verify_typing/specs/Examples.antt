@@ -53,6 +53,7 @@ IsTyped l = HasTyping l (routine l 0)
 
 -- ---- what is typed
 
+-- Methods that have a typing.
 pub record TypedExamples : Type 0 where
   pub returns : IsTyped (small (Plain op.RETURNVOID ∷ []))
   -- label, getlocal_0, pop, and a jump to the label
@@ -64,6 +65,7 @@ pub record TypedExamples : Type 0 where
 
 -- ---- what is refuted
 
+-- Methods, each with an index and a rule that refute it.
 pub record RuleExamples : Type 0 where
   -- dxns
   pub not_run : RefutesInit (small (One op.DXNS 1 ∷ Plain op.RETURNVOID ∷ [])) 0 rules.NotRun

@@ -1,9 +1,10 @@
--- What an instruction names: its opcode, its operands by their meaning, and places.
+-- What an instruction names: its opcode, its operands by their meaning, and places (Overview, chapter 5).
 use Rattle.std.specs.Prelude.{ℕ, ◌%◌, List, [], ◌∷◌}
 use Rattle.abc_file_types.specs.declared.code.Instr.{Instr}
 use Rattle.abc_file_types.specs.declared.code.Instr.TheVariants as instrs
 use Rattle.abc_file_types.specs.declared.op.TheConstants as op
 
+-- the opcode of an instruction
 abbrev pub opcode : Instr → ℕ
 opcode (instrs.Plain code) = code
 opcode (instrs.One code n) = code

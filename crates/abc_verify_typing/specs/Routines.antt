@@ -1,4 +1,5 @@
--- A method with its body, as a verifier sees it: what is known as it begins, its sizes, its code and its handlers.
+-- A method with its body, as a verifier sees it: what is known as it begins, its sizes, its code and its handlers
+-- (Overview, chapter 4, "Method signature" and "Method body"; profile: docs/VERIFYING.md, "States").
 use Rattle.std.specs.Prelude.{ℕ, suc, ◌-◌, List, [], ◌∷◌, Bool, ◌&&◌, ◌||◌, Option, Some, None, if◌then◌else◌, map, ltb, ◌++◌}
 use Rattle.abc_base.specs.declared.names.HostClass.TheVariants as hosts
 use Rattle.abc_link_names.specs.Instances.{instance_at}
@@ -23,23 +24,28 @@ use Rattle.abc_verify_typing.specs.declared.catch.Catch.{Catch}
 use Rattle.abc_verify_typing.specs.declared.home.Home.{Home}
 use Rattle.abc_verify_typing.specs.declared.home.Home.TheVariants.{Elsewhere, OnInstances, MakesInstances}
 
+-- A method with its body.
 pub record Routine : Type 0 where
   -- what a call fills: `this`, then the parameters, then the array of what is left over or of all arguments
   pub filled : List Kind
+  -- whether super operations may stand in it, and on the instances of which layout
   pub home : Home
   -- flag 02
   pub needs_activation : Bool
   -- flag 40, or both flags 01 and 04
   pub unsupported : Bool
+  -- the layout of its activation object
   pub activation : LayoutId
   pub max_stack : ℕ
   pub local_count : ℕ
+  -- how many local scopes it may have
   pub scope_size : ℕ
   pub code : List Instr
   pub handlers : List Catch
 
 -- ---- of a file
 
+-- the kind, or Any where none is known
 abbrev pub or_any : Option Kind → Kind
 or_any None = Any
 or_any (Some k) = k

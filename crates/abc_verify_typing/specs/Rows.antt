@@ -1,4 +1,5 @@
--- The table of instructions, as far as a verifier asks: what is taken, what is pushed, and where it leads.
+-- The table of instructions, as far as a verifier asks: what is taken, what is pushed, and where it leads
+-- (Overview, chapter 5; profile: docs/VERIFYING.md, "Instructions").
 use Rattle.std.specs.Prelude.{ℕ, List, [], ◌∷◌, Bool, true, false, cond, nat_eq, map}
 use Rattle.std.specs.Prelude.{Some, None}
 use Rattle.std.specs.declared.option.Option.{Option}

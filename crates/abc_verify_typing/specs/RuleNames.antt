@@ -1,8 +1,9 @@
--- The rules by the names that a refusal shows.
+-- The rules by the names that a refusal shows (profile: docs/VERIFYING.md, "Rules").
 use Rattle.std.specs.Prelude.{ℕ, List, codes}
 use Rattle.abc_verify_typing.specs.declared.rule.VerifyRule.{VerifyRule}
 use Rattle.abc_verify_typing.specs.declared.rule.VerifyRule.TheVariants as rules
 
+-- the name of a rule
 abbrev pub rule_name : VerifyRule → List ℕ
 rule_name rules.NotRun = codes "NotRun"
 rule_name rules.PoolIndex = codes "PoolIndex"

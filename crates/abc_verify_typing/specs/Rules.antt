@@ -1,4 +1,4 @@
--- The rules, in the order in which a refusal names them.
+-- The rules, in the order in which a refusal names them (profile: docs/VERIFYING.md, "Rules").
 use Rattle.std.specs.Prelude.{ℕ, zero, suc, is_some, nat_eq, ◌+◌, ◌-◌, List, [], ◌∷◌, ◌++◌, Bool, true, false, cond, not, ◌&&◌, ◌||◌, leb, ltb, eqb, Option, Some, None, length, map, slice_get}
 use Rattle.abc_link_names.specs.declared.types.Kind.{Kind}
 use Rattle.abc_link_names.specs.declared.types.Kind.TheVariants.{Any, Undef, Null, Num, Bool as Truth, Text, Space, Obj}
@@ -72,6 +72,7 @@ is_name (Some (names.RtL attr)) = not attr
 is_name (Some (names.MultiL attr set)) = not attr
 is_name name = is_plain name
 
+-- the operand n, if it is a name or a type, has the form that the row asks for
 abbrev pub has_form : LinkedFile → Operand → ℕ → Bool
 has_form p NameAt n = is_name (name_at p n)
 has_form p PlainNameAt n = is_plain (name_at p n)
@@ -92,16 +93,19 @@ abbrev pub is_empty : List Catch → Bool
 is_empty [] = true
 is_empty (h ∷ hs) = false
 
+-- if a scope is popped, there is one; n is how many local scopes there are
 abbrev pub may_pop : Scoping → ℕ → Bool
 may_pop Pops n = ltb 0 n
 may_pop Stays n = true
 may_pop (Pushes is_with) n = true
 
+-- if a scope is pushed, there is room for it; n is how many local scopes there are, and `size` how many there may be
 abbrev pub may_push : Scoping → ℕ → ℕ → Bool
 may_push (Pushes is_with) n size = ltb n size
 may_push Stays n size = true
 may_push Pops n size = true
 
+-- the locals that an instruction names are among the first `count`; those of hasnext2 are two different ones
 abbrev pub has_locals : Locals → Instr → ℕ → Bool
 has_locals Untouched i count = true
 has_locals Reads i count = ltb (local i) count
@@ -132,26 +136,31 @@ is_here m InMaker = is_some (super_layout InMaker m.home)
 
 -- kinds
 
+-- Space or Null
 abbrev pub is_namespace : Kind → Bool
 is_namespace Null = true
 is_namespace Space = true
 is_namespace k = false
 
+-- Null, or the Obj of a layout
 abbrev pub is_object : Kind → Bool
 is_object Null = true
 is_object (Obj l) = true
 is_object k = false
 
+-- Num
 abbrev pub is_number : Kind → Bool
 is_number Num = true
 is_number k = false
 
+-- Null, or the Obj of a layout at or under m; where no layout is given, any kind
 abbrev pub is_instance : LinkedFile → Option LayoutId → Kind → Bool
 is_instance p None k = true
 is_instance p (Some m) Null = true
 is_instance p (Some m) (Obj l) = reaches p l.0 l.0 m.0
 is_instance p (Some m) k = false
 
+-- an Obj has to have the slot of number j; any other kind passes
 abbrev pub has_slot : LinkedFile → ℕ → Kind → Bool
 has_slot p j (Obj l) = is_some (slot p l.0 j)
 has_slot p j Any = true
@@ -292,6 +301,7 @@ at_instr p m i rules s (Some instr) = at_row p m i instr rules s (row_at (opcode
 abbrev pub broken : LinkedFile → Routine → ℕ → State → Option VerifyRule
 broken p m i s = at_instr p m i (early_rules ++ late_rules) s (slice_get m.code i)
 
+-- the first rule before Merge that a state breaks at the index i
 abbrev pub broken_early : LinkedFile → Routine → ℕ → State → Option VerifyRule
 broken_early p m i s = at_instr p m i early_rules s (slice_get m.code i)
 

@@ -25,6 +25,7 @@ sources (GivesTwo a b) = a ∷ b ∷ []
 abbrev pub shape_of : Row → Shape
 shape_of r = record { operand = r.operand; args = r.args; takes = needs r.takes; gives = sources r.gives; locals = r.locals; scoping = r.scoping; leads = r.leads; site = r.site }
 
+-- the row of the code's table, without its padding, if there is one
 abbrev pub shape_in : Option Row → Option Shape
 shape_in None = None
 shape_in (Some r) = Some (shape_of r)

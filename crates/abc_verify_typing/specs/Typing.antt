@@ -1,4 +1,4 @@
--- Typings, and what can be derived.
+-- Typings, and what can be derived (profile: docs/VERIFYING.md, "States" and "Typings").
 use Rattle.std.specs.Prelude.{◌≡◌, ℕ, List, [], ◌∷◌, ◌++◌, Option, Some, None, length, take, replicate, ◌⊎◌}
 use Rattle.abc_verify_typing.specs.Lists.{Each2}
 use Rattle.abc_link_names.specs.declared.types.Kind.TheVariants.{Undef}
@@ -37,9 +37,11 @@ abbrev pub In : {X : Type 0} → X → List X → Type 0
 In x [] = ⊥
 In x (y ∷ ys) = (x ≡ y) ⊎ In x ys
 
+-- The state n, at index t, follows from the state s, at index i: by the instruction there, or by a handler that covers it.
 abbrev pub Follows : LinkedFile → Routine → ℕ → State → ℕ → State → Type 0
 Follows p m i s t n = In (t, n) (follows p m i s)
 
+-- The state breaks no rule at the index i.
 abbrev pub IsFine : LinkedFile → Routine → ℕ → State → Type 0
 IsFine p m i s = broken p m i s ≡ None
 
@@ -66,6 +68,7 @@ pub data Refutes (p : LinkedFile) (m : Routine) (i : ℕ) : VerifyRule → Type 
   Broken : (s : State) (r : VerifyRule) → Derivable p m i s → broken p m i s ≡ Some r → Refutes p m i r
   Unmerged : (s t : State) → Derivable p m i s → Derivable p m i t → (HasOneShape s t → ⊥) → broken_early p m i s ≡ None → Refutes p m i Merge
 
+-- The method has a typing.
 abbrev pub HasTyping : LinkedFile → Routine → Type 0
 HasTyping p m = (states : ℕ → Option State) × IsTyping p m states
 
