@@ -31,6 +31,7 @@ parade = record (file_of (codes "A" ∷ codes "Object" ∷ codes "f" ∷ [])
 abbrev pub program : Setting
 program = setting parade (parts.Instance 0 ∷ parts.ClassObject 0 ∷ parts.Global 0 ∷ parts.Global 1 ∷ parts.Catch 1 0 ∷ [])
 
+-- that file is verified, its run begins within the limits, writes nothing, and is done
 pub record VerifiedExamples : Type 0 where
   pub verified : IsVerified program
   pub begins : too_small (first_world program ample).heap ≡ None

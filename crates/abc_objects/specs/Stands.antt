@@ -148,7 +148,7 @@ pub record HasOpening (l : LinkedFile) (h : Heap) : Type 0 where
   pub scopes : (s : ℕ) (n : ScopeNode) → slice_get (opening_scopes l (length h.formulas)) s ≡ Some n → slice_get h.scopes s ≡ Some n
   pub few : length h.formulas ≤ 64
 
--- the heap of a run of a linked file: all that it names is there, and each object is what its layout says
+-- a heap stands over a linked file: all that it names is there, and each object is what its layout says
 pub record StandsOver (l : LinkedFile) (h : Heap) : Type 0 where
   -- the file is linked, and the values with which slots start exist
   pub linked : IsLinkedFile l
