@@ -33,7 +33,7 @@ pub record Machine : Type 0 where
   pub world : World
   pub frames : List Frame
 
--- how a run ended; a fault is told with its method and the index of the instruction, here its place
+-- how a run ended; a profile fault has its method and the index of its instruction, here its place
 pub data End : Type 0 where
   Done : End
   Uncaught : Thrown → End

@@ -7,6 +7,6 @@ use Rattle.abc_meaning.specs.Setting.{Setting}
 abbrev pub FilesGive : Type 0
 FilesGive = (p : Setting) → IsLinkedFile p.linked → FileGiven p
 
--- in a linked file, activations and catch objects have layouts of their own, and the bases of classes are known (`ScopesGiven`)
+-- in a linked file, activations and catch objects have their layouts, and the bases of classes are known (`ScopesGiven`)
 abbrev pub ScopesHaveLayouts : Type 0
 ScopesHaveLayouts = (p : Setting) → IsLinkedFile p.linked → ScopesGiven p
