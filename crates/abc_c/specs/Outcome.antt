@@ -40,7 +40,7 @@ item_code items.Class = 2
 item_code items.Script = 3
 item_code items.Body = 4
 
--- the refusal of a file that was not refused
+-- what is handed back for a refusal where there was none
 abbrev pub unrefused : Refusal
 unrefused = record { by = 0; place = 0; offset = 0 }
 

@@ -16,7 +16,7 @@ abbrev pub place_below : (Span → List ℕ) → List ℕ → List (Option (Span
 place_below f t ps zero = None
 place_below f t ps (suc k) = if is_named f t (slice_get ps k) then Some k else place_below f t ps k
 
--- the place of the property of text t, if there is one; `f` gives the text of a name
+-- the place of the last property of text t, if there is one; `f` gives the text of a name
 abbrev pub place_named : (Span → List ℕ) → List ℕ → List (Option (Span × Value)) → Option ℕ
 place_named f t ps = place_below f t ps (length ps)
 

@@ -177,7 +177,7 @@ abbrev pub IsUnopened : Limits → Limits → OpenError → Type 0
 IsUnopened counts limits errors.NoMemory = Unit {0}
 IsUnopened counts limits (errors.TooSmall which) = PassesAtOpening counts limits which
 
--- the heap is the opening one of a linked file, formulas by name, and limits, and is within the limits
+-- the heap is the opening one of a linked file, of formulas with these names and of limits, and it is within the limits
 abbrev pub IsOpened : LinkedFile → List (List ℕ) → Limits → Heap → Type 0
 IsOpened l formulas limits h = IsWithin (opening_counts l (length formulas)) limits × (h ≡ opening l formulas limits)
 

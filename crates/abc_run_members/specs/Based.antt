@@ -15,7 +15,7 @@ named_of bases.Nothing = None
 named_of (bases.Class k) = Some (named.Class k)
 named_of (bases.Host c) = Some (named.Host c)
 
--- a base that is a class of the file is one of its classes
+-- a base that is given by the number of a class is a class of the file
 abbrev pub IsBase : LinkedFile → Base → Type 0
 IsBase l bases.Nothing = Unit {0}
 IsBase l (bases.Class k) = k < length l.file.instances

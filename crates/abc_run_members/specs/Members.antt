@@ -138,7 +138,7 @@ writes_on p v name x initial how f = settled_by how f (writes_to p v name x init
 abbrev pub calls_on : Setting → (v receiver : Value) → Name → (count : ℕ) → How → Frame → Run Act
 calls_on p v receiver name count how f = settled_by how f (calls_name p v receiver name (arguments count f))
 
--- what a name finds on v is read, and new is done on it with the top operands, so many; others leave from under these
+-- what a name finds on v is read, and new is done on it with the top operands, so many; so many others leave from under them
 abbrev pub constructs_on : Setting → Value → Name → (under count : ℕ) → Frame → Run Act
 constructs_on p v name under count f = reads p v name >>= constructs_of p under count f
 

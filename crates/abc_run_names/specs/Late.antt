@@ -30,6 +30,6 @@ tests_instance p f = pushes 2 f (late_type p (operand_at 0 f) >>= λ t. see (is_
 abbrev pub name_is_in : Setting → (name object : Value) → Run Value
 name_is_in p n o = spells p n >>= λ t. with_holder o (see (λ w. Truth (is_found (found_on p.linked w.heap o (record { spaces = Public; text = t }) Read))))
 
--- in: whether the name under the top operand finds anything on that
+-- in: whether the public name under the top operand finds anything on that
 abbrev pub tests_name : Setting → Frame → Run Act
 tests_name p f = pushes 2 f (name_is_in p (operand_at 1 f) (operand_at 0 f))

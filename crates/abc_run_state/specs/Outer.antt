@@ -12,7 +12,7 @@ pub record Outer : Type 0 where
   pub formulas : List Formula
   pub wrote : List ℕ
 
--- what is run, in the words of the meaning
+-- the file with the formulas: what is run, in the words of the meaning
 abbrev pub setting : LinkedFile → Outer → Setting
 setting l out = record { linked = l; formulas = out.formulas }
 

@@ -43,7 +43,7 @@ counts_local op n f = computes_one op (local_at n f) >>= λ v. goes (next (with_
 abbrev pub branches_on : ℕ → (target : ℕ) → Frame → Run Bool → Run Act
 branches_on n target f m = m >>= λ b. goes (if b then jumps target (dropped n f) else next (dropped n f))
 
--- not what m answers
+-- the opposite of what m answers
 abbrev pub opposite : Run Bool → Run Bool
 opposite m = m >>= λ b. done (not b)
 
