@@ -25,6 +25,7 @@ use Rattle.abc_c.specs.declared.crossing.Kind.TheVariants as kinds
 
 -- ---- statuses
 
+-- the status of a run that ended so
 abbrev pub end_status : End → Status
 end_status ends.Done = status.Done
 end_status (ends.Uncaught thrown) = status.Uncaught

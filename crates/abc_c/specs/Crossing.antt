@@ -11,6 +11,7 @@ use Rattle.abc_c.specs.declared.crossing.Call.{Call}
 use Rattle.abc_c.specs.declared.crossing.Kind.{Kind}
 use Rattle.abc_c.specs.declared.crossing.Kind.TheVariants as kinds
 
+-- the limits among the bounds
 abbrev pub limits_of : Bounds → Limits
 limits_of b = record { objects = b.objects; cells = b.cells; text = b.text; frames = b.frames; stack = b.stack }
 
@@ -29,9 +30,11 @@ pub record CanBeMade (names : List ℕ) (c : Call) : Type 0 where
   pub few : c.count ≤ 4
   pub numbers : HasNumbers c
 
+-- the name of the function that is called, within the names
 abbrev pub name_of : List ℕ → Call → List ℕ
 name_of names c = take c.name_length (drop c.name_start names)
 
+-- the numbers that are given to a call, at most four
 abbrev pub numbers_of : Call → List ℤ
 numbers_of c = take c.count (c.a ∷ c.b ∷ c.c ∷ c.d ∷ [])
 

@@ -23,6 +23,7 @@ IsUnread file (errors.Refused place reason) = IsRefused file (errors.Refused pla
 IsUnread file (errors.Link rule i) = IsRefused file (errors.Link rule i)
 IsUnread file (errors.Verify m offset rule) = IsRefused file (errors.Verify m offset rule)
 
+-- why a file is not opened: it is refused, what every run begins with passes a limit, or there is no memory
 abbrev pub IsUnopened : List ℕ → Bounds → Unopened → Type 0
 IsUnopened file bounds (unopened.Refused e) = IsRefused file e
 IsUnopened file bounds unopened.TooSmall = IsTooSmall file bounds

@@ -40,6 +40,7 @@ item_code items.Class = 2
 item_code items.Script = 3
 item_code items.Body = 4
 
+-- what is handed back for a refusal where there was none
 abbrev pub unrefused : Refusal
 unrefused = record { by = 0; place = 0; offset = 0 }
 
@@ -78,6 +79,7 @@ pub record IsTooSmall (file : List ℕ) (bounds : Bounds) : Type 0 where
 
 -- ---- the run of the last script
 
+-- the last script was run, with this fuel: so it ended, so it left the machine, and so the output grew
 pub record IsStarted (old new : Opened) (fuel : ℕ) (end : End) (before now : List ℕ) : Type 0 where
   pub runs : RunsAs (meaning_of old builtin_formulas fuel) (Some before) (Some now) end
   pub leaves : LeavesRun old new builtin_formulas fuel end
@@ -92,6 +94,7 @@ pub record Use : Type 0 where
   pub names : List ℕ
   pub calls : List Call
 
+-- what a C caller hands over, as one record
 abbrev pub use_of : (file : List ℕ) → Bounds → (names : List ℕ) → List Call → Use
 use_of file bounds names calls = record { file = file; bounds = bounds; names = names; calls = calls }
 

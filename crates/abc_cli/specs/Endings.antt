@@ -26,6 +26,7 @@ end_answer v starts ends.WriteFault = told status.WriteFault write_fault_text
 abbrev pub HasPlace : Abc → List (List ℕ) → ℕ → ℕ → Type 0
 HasPlace v starts m i = (unwrap_or (body_of v m) 0 < length starts) × (i < length (get_or starts (unwrap_or (body_of v m) 0) []))
 
+-- a profile fault that ends a run has its place in the code as it was read; any other end needs none
 abbrev pub IsPlacedEnd : Abc → List (List ℕ) → End → Type 0
 IsPlacedEnd v starts (ends.Profile m i fault) = HasPlace v starts m i
 IsPlacedEnd v starts other = Unit {0}

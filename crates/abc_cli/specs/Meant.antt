@@ -40,5 +40,6 @@ IsMeant v starts (Ran wrote end) a = IsEnded v starts wrote end a
 
 -- ---- the limits of the words
 
+-- the limits among the options of a run
 abbrev pub limits_of : RunOptions → Limits
 limits_of o = record { objects = o.objects; cells = o.cells; text = o.text; frames = o.frames; stack = o.stack }

@@ -58,6 +58,7 @@ public_space = record { kind = spaces.Package; name = 0 }
 abbrev pub script_of : ℕ → Script
 script_of m = record { init = 0; traits = map function_trait (one_to m) }
 
+-- the file that is generated from a seed, with m functions
 abbrev pub generated : ℕ → ℕ → Abc
 generated seed m = record empty {
   strings = texts m;

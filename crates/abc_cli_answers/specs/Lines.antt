@@ -26,6 +26,7 @@ line text = codes "abc: " ++ text ++ 10 ∷ []
 unfoldable pub usage_text : List ℕ → List ℕ
 usage_text word = codes "usage: " ++ escaped word
 
+-- there are no words
 unfoldable pub no_command_text : List ℕ
 no_command_text = codes "usage: no command"
 
@@ -91,11 +92,13 @@ write_fault_text = codes "write fault"
 
 -- ---- how a run ends
 
+-- nothing caught what was thrown, which has this name
 unfoldable pub uncaught_text : List ℕ → List ℕ
 uncaught_text name = codes "uncaught " ++ escaped name
 
 unfoldable pub fuel_spent_text : List ℕ
 fuel_spent_text = codes "fuel spent"
 
+-- a run passed a limit
 unfoldable pub limit_text : Limit → List ℕ
 limit_text limit = codes "limit " ++ limit_name limit

@@ -68,12 +68,15 @@ calls_with g name n =
 abbrev pub none_with : GivenNone → List ℕ → ℕ → Option GivenNone
 none_with g name n = None
 
+-- no option of the commands run and log was given yet
 abbrev pub run_start : GivenRun
 run_start = record { fuel = None; objects = None; cells = None; text = None; frames = None; stack = None }
 
+-- no option of the command gen was given yet
 abbrev pub gen_start : GivenGen
 gen_start = record { seed = None; methods = None }
 
+-- no option of the command calls was given yet
 abbrev pub calls_start : GivenCalls
 calls_start = record { run = run_start; times = None }
 
@@ -81,12 +84,15 @@ calls_start = record { run = run_start; times = None }
 abbrev pub number_of : CommandOption → Option ℕ → ℕ
 number_of option given = unwrap_or given option.default
 
+-- the options of the commands run and log: those that were given, and else the defaults
 abbrev pub run_options_of : GivenRun → RunOptions
 run_options_of g = record { fuel = number_of fuel g.fuel; objects = number_of objects g.objects; cells = number_of cells g.cells; text = number_of text g.text; frames = number_of frames g.frames; stack = number_of stack g.stack }
 
+-- the options of the command gen: those that were given, and else the defaults
 abbrev pub gen_options_of : GivenGen → GenOptions
 gen_options_of g = record { seed = number_of seed g.seed; methods = number_of methods g.methods }
 
+-- the options of the command calls: those that were given, and else the defaults
 abbrev pub calls_options_of : GivenCalls → CallsOptions
 calls_options_of g = record { run = run_options_of g.run; times = number_of times g.times }
 

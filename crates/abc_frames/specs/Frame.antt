@@ -29,6 +29,7 @@ pub record Frames : Type 0 where
   pub frame_limit : ℕ
   pub value_limit : ℕ
 
+-- no frame lives; so many frames and so many values there may be
 abbrev pub no_frames : (frames values : ℕ) → Frames
 no_frames frames values = record { living = []; sizes = []; frame_limit = frames; value_limit = values }
 
@@ -52,6 +53,7 @@ abbrev pub under : List Frame → List Frame
 under [] = []
 under (f ∷ fs) = fs
 
+-- the newest frame
 abbrev pub newest : Frames → Frame
 newest q = newest_of q.living
 
@@ -61,12 +63,15 @@ newest_size q = first_size q.sizes
 
 -- ---- what is done to a frame
 
+-- the frame with v as one more operand, on top
 abbrev pub pushed : Value → Frame → Frame
 pushed v f = record f { stack = v ∷ f.stack }
 
+-- the frame with v in place of operand n, counted from the top, which is 0
 abbrev pub with_operand : ℕ → Value → Frame → Frame
 with_operand n v f = record f { stack = set f.stack n v }
 
+-- the frame without its top n operands
 abbrev pub dropped : ℕ → Frame → Frame
 dropped n f = record f { stack = drop n f.stack }
 
@@ -74,15 +79,19 @@ dropped n f = record f { stack = drop n f.stack }
 abbrev pub dropped_under : (n k : ℕ) → Frame → Frame
 dropped_under n k f = record f { stack = take n f.stack ++ drop (n + k) f.stack }
 
+-- the frame with v in local n
 abbrev pub with_local : ℕ → Value → Frame → Frame
 with_local n v f = record f { locals = set f.locals n v }
 
+-- the frame with one more local scope, on top
 abbrev pub with_scope : ScopeEntry → Frame → Frame
 with_scope e f = record f { scopes = f.scopes ++ e ∷ [] }
 
+-- the frame goes on at the instruction of index i
 abbrev pub at_place : ℕ → Frame → Frame
 at_place i f = record f { place = i }
 
+-- the frame waits for what a call returns; `wait` tells what it does with that
 abbrev pub waiting : Wait → Frame → Frame
 waiting wait f = record f { wait = wait }
 
@@ -103,6 +112,7 @@ abbrev pub total_of_all : List Size → ℕ
 total_of_all [] = 0
 total_of_all (s ∷ ss) = total s + total_of_all ss
 
+-- one more frame of this size is within both limits
 abbrev pub HasRoomFor : Frames → Size → Type 0
 HasRoomFor q s = (length q.living + 1 ≤ q.frame_limit) × (total_of_all q.sizes + total s ≤ q.value_limit)
 
@@ -139,5 +149,6 @@ abbrev pub rest_of : List Size → List Size
 rest_of [] = []
 rest_of (s ∷ ss) = ss
 
+-- the frames without the newest
 abbrev pub left : Frames → Frames
 left q = record q { living = under q.living; sizes = rest_of q.sizes }

@@ -9,6 +9,7 @@ use Rattle.abc_frames.specs.declared.records.Wait.TheVariants.{Not, Push, Drop, 
 
 -- ---- how a frame goes on
 
+-- the frame goes on at the next instruction
 abbrev pub next : Frame → Frame
 next f = record f { place = f.place + 1 }
 
@@ -22,6 +23,7 @@ abbrev pub first_of : List Value → Value
 first_of [] = Undefined
 first_of (v ∷ vs) = v
 
+-- the top operand
 abbrev pub top : Frame → Value
 top f = first_of f.stack
 
@@ -30,21 +32,27 @@ second f = first_of (drop 1 f.stack)
 
 -- ---- operands and locals
 
+-- pop: the top operand is taken, and the frame goes on
 abbrev pub popped : Frame → Frame
 popped f = next (dropped 1 f)
 
+-- dup: the top operand is there twice
 abbrev pub duplicated : Frame → Frame
 duplicated f = next_with (top f ∷ top f ∷ []) (dropped 1 f)
 
+-- swap: the top two operands change places
 abbrev pub swapped : Frame → Frame
 swapped f = next_with (second f ∷ top f ∷ []) (dropped 2 f)
 
+-- setlocal: the top operand goes into local n
 abbrev pub stored : ℕ → Frame → Frame
 stored n f = next (with_local n (top f) (dropped 1 f))
 
+-- kill: local n is undefined
 abbrev pub killed : ℕ → Frame → Frame
 killed n f = next (with_local n Undefined f)
 
+-- the top n operands are taken, and the frame goes on
 abbrev pub dropped_on : ℕ → Frame → Frame
 dropped_on n f = next (dropped n f)
 
@@ -59,6 +67,7 @@ branched false target f = next f
 
 -- ---- scopes
 
+-- the object that a value is, if it is one
 abbrev pub object_in : Value → Option ObjId
 object_in (Obj o) = Some o
 object_in Undefined = None
@@ -76,9 +85,11 @@ abbrev pub scoped_if : (with_flag : Bool) → Option ObjId → Frames → Frames
 scoped_if with_flag None q = q
 scoped_if with_flag (Some o) q = with_newest (scoped with_flag o) q
 
+-- the top operand is taken and, where it is an object, put onto the newest frame's scopes; else nothing changes
 abbrev pub scopes_pushed : (with_flag : Bool) → Frames → Frames
 scopes_pushed with_flag q = scoped_if with_flag (object_in (top (newest q))) q
 
+-- popscope: the top local scope goes
 abbrev pub unscoped : Frame → Frame
 unscoped f = next (record f { scopes = take (length f.scopes - 1) f.scopes })
 
@@ -92,6 +103,7 @@ resumed_by Again v f = waiting Not f
 resumed_by (New n) v f = waiting Not f
 resumed_by Not v f = waiting Not f
 
+-- a frame that waited goes on with v, which a call returned
 abbrev pub resumed : Value → Frame → Frame
 resumed v f = resumed_by f.wait v f
 

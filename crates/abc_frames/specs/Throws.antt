@@ -15,6 +15,7 @@ abbrev pub lands : Option ℕ → Value → Frame → List Frame → (otherwise 
 lands None v f fs otherwise = otherwise
 lands (Some target) v f fs otherwise = caught v target f ∷ fs
 
+-- the frames that are left over, newest first, once v is thrown: the one that catches, and those under it; none if none does
 abbrev pub unwound : Targets → Value → List Frame → List Frame
 unwound t v [] = []
 unwound t v (f ∷ fs) = lands (target_for t f) v f fs (unwound t v fs)
@@ -24,6 +25,7 @@ abbrev pub sizes_from : Option ℕ → (all otherwise : List Size) → List Size
 sizes_from None all otherwise = otherwise
 sizes_from (Some target) all otherwise = all
 
+-- the sizes of the frames that are left over once a value is thrown
 abbrev pub sizes_left : Targets → List Frame → List Size → List Size
 sizes_left t [] ss = ss
 sizes_left t (f ∷ fs) [] = []
@@ -34,6 +36,7 @@ abbrev pub MayKeep : Option ℕ → Size → (otherwise : Type 0) → Type 0
 MayKeep None s otherwise = otherwise
 MayKeep (Some target) s otherwise = 0 < s.stack
 
+-- the frame that catches, if one does, may keep an operand: the value that is thrown
 abbrev pub CanCatch : Targets → List Frame → List Size → Type 0
 CanCatch t [] ss = Unit {0}
 CanCatch t (f ∷ fs) [] = ⊥

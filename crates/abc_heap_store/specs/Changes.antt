@@ -24,21 +24,26 @@ change f (suc o) (ob ∷ obs) = ob ∷ change f o obs
 abbrev pub with_object : (Object → Object) → ℕ → Heap → Heap
 with_object f o h = record h { objects = change f o h.objects }
 
+-- the object with v in its slot k
 abbrev pub with_slot : ℕ → Value → Object → Object
 with_slot k v ob = record ob { slots = set ob.slots k v }
 
+-- the object with these slots after its own
 abbrev pub with_more_slots : List Value → Object → Object
 with_more_slots vs ob = record ob { slots = ob.slots ++ vs }
 
 abbrev pub with_property : ℕ → Option (Span × Value) → Object → Object
 with_property k p ob = record ob { properties = set ob.properties k p }
 
+-- the object with one more property, of name n and value v, at the end
 abbrev pub with_new_property : Span → Value → Object → Object
 with_new_property n v ob = record ob { properties = ob.properties ++ Some (n, v) ∷ [] }
 
+-- the object with v as its element k, counted from 0
 abbrev pub with_element : ℕ → Value → Object → Object
 with_element k v ob = record ob { elements = set ob.elements k v }
 
+-- the object with one more element at the end
 abbrev pub with_new_element : Value → Object → Object
 with_new_element v ob = record ob { elements = ob.elements ++ v ∷ [] }
 
@@ -83,6 +88,8 @@ with_class ps cs parts saved scopes h =
     (with_scopes statics own (with_scopes saved scopes (with_made ps parts.prototype_layout parts.base_prototype Plain h)))) in
     record made { classes = set h.classes parts.class (Some (obj_id o)) }
 
+-- a class is made where there is room for its two objects, their slots and its scopes; `o` is the class object,
+-- `ps` and `cs` are the values with which the slots of the prototype object and of the class object start
 pub record IsClassMade (old : Heap) (new : Heap) (o : ObjId) (ps : List Value) (cs : List Value) (parts : ClassParts) (saved : Option ScopeId) (scopes : List ScopeEntry) : Type 0 where
   pub number : o.0 ≡ length old.objects + 1
   pub room : HasRoomFor old 2 (length ps + length cs + length scopes + 1)
@@ -92,6 +99,7 @@ pub record IsClassMade (old : Heap) (new : Heap) (o : ObjId) (ps : List Value) (
 abbrev pub with_array : List Value → ℕ → Option ObjId → Heap → Heap
 with_array elements layout delegate h = record h { objects = h.objects ++ with_more_elements elements (bare layout delegate Array) ∷ [] }
 
+-- array o is made, of these elements, where there is room for it and for them
 pub record IsArrayMade (old : Heap) (new : Heap) (o : ObjId) (elements : List Value) (layout : ℕ) (delegate : Option ObjId) : Type 0 where
   pub number : o.0 ≡ length old.objects
   pub room : HasRoomFor old 1 (length elements)

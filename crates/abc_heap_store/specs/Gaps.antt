@@ -23,5 +23,6 @@ pub record IsGap (cells : List Cell) (c : Cell) (n : ℕ) : Type 0 where
   pub some : 0 < n
   pub empty : AreEmpty (properties c.owner cells) c.position n
 
+-- each cell of a deleted property tells how many positions from its own on are empty, and it is so
 abbrev pub AreGaps : List Cell → Type 0
 AreGaps cells = (i : ℕ) (c : Cell) (n : ℕ) → slice_get cells i ≡ Some c → c.held ≡ Deleted n → IsGap cells c n

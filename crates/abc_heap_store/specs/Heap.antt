@@ -48,9 +48,11 @@ abbrev pub all_cells : List Object → ℕ
 all_cells [] = 0
 all_cells (ob ∷ obs) = cells_of ob + all_cells obs
 
+-- the cells that a heap uses: those of all objects, and one for each captured scope
 abbrev pub cells_used : Heap → ℕ
 cells_used h = all_cells h.objects + length h.scopes
 
+-- how much of each limit is used: objects, cells, bytes of made texts, frames and stack
 abbrev pub ledger : Heap → Limits
 ledger h = record { objects = length h.objects; cells = cells_used h; text = length h.made; frames = h.frames; stack = h.stack }
 
@@ -64,6 +66,7 @@ IsFull old new used need limit which e = (e ≡ record { 0 = which }) × (limit 
 abbrev pub Fits : Heap → Heap → ℕ → Heap → Type 0
 Fits old new need grown = (cells_used old + need ≤ old.limits.cells) × (new ≡ grown)
 
+-- so many objects more, and so many cells more, are within the limits
 abbrev pub HasRoomFor : Heap → ℕ → ℕ → Type 0
 HasRoomFor old objects cells = (length old.objects + objects ≤ old.limits.objects) × (cells_used old + cells ≤ old.limits.cells)
 
@@ -75,6 +78,7 @@ PassesLimit old objects cells Text = ⊥
 PassesLimit old objects cells Frames = ⊥
 PassesLimit old objects cells Stack = ⊥
 
+-- nothing was changed, and the answer names the limit that so many objects and cells would pass
 abbrev pub IsFullOf : Heap → Heap → ℕ → ℕ → Full → Type 0
 IsFullOf old new objects cells e = (new ≡ old) × PassesLimit old objects cells e.0
 
@@ -94,11 +98,14 @@ object_at [] o = record { layout = 0; delegate = None; slots = []; properties = 
 object_at (ob ∷ obs) zero = ob
 object_at (ob ∷ obs) (suc o) = object_at obs o
 
+-- the slots of object o
 abbrev pub slots_of : List Object → ℕ → List Value
 slots_of obs o = (object_at obs o).slots
 
+-- the properties of object o, by place; none at a place where one was deleted
 abbrev pub properties_of : List Object → ℕ → List (Option (Span × Value))
 properties_of obs o = (object_at obs o).properties
 
+-- the elements of object o
 abbrev pub elements_of : List Object → ℕ → List Value
 elements_of obs o = (object_at obs o).elements

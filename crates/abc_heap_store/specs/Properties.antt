@@ -16,6 +16,7 @@ abbrev pub place_below : (Span → List ℕ) → List ℕ → List (Option (Span
 place_below f t ps zero = None
 place_below f t ps (suc k) = if is_named f t (slice_get ps k) then Some k else place_below f t ps k
 
+-- the place of the last property of text t, if there is one; `f` gives the text of a name
 abbrev pub place_named : (Span → List ℕ) → List ℕ → List (Option (Span × Value)) → Option ℕ
 place_named f t ps = place_below f t ps (length ps)
 
@@ -24,14 +25,17 @@ abbrev pub filled : Option (Option (Span × Value)) → Option (Span × Value)
 filled None = None
 filled (Some p) = p
 
+-- the property at a position, counted from 1, if one is there
 abbrev pub at_position : List (Option (Span × Value)) → ℕ → Option (Span × Value)
 at_position ps zero = None
 at_position ps (suc k) = filled (slice_get ps k)
 
+-- the name of a property, where there is one
 abbrev pub the_name : Option (Span × Value) → Option Span
 the_name None = None
 the_name (Some p) = Some p.0
 
+-- the value of a property, where there is one
 abbrev pub the_value : Option (Span × Value) → Option Value
 the_value None = None
 the_value (Some p) = Some p.1
@@ -53,9 +57,11 @@ abbrev pub put_at : Span → Value → List (Option (Span × Value)) → Option 
 put_at n v ps None = ps ++ Some (n, v) ∷ []
 put_at n v ps (Some k) = set ps k (valued v (filled (slice_get ps k)))
 
+-- the object after v is written to its property of text t; n is the name of a new one, and `f` gives the text of a name
 abbrev pub with_put : (Span → List ℕ) → List ℕ → Span → Value → Object → Object
 with_put f t n v ob = record ob { properties = put_at n v ob.properties (place_named f t ob.properties) }
 
+-- how many cells a write needs, by the place of the property: one where there is none yet
 abbrev pub cells_to_put : Option ℕ → ℕ
 cells_to_put None = 1
 cells_to_put (Some k) = 0
@@ -65,6 +71,7 @@ abbrev pub delete_at : List (Option (Span × Value)) → Option ℕ → List (Op
 delete_at ps None = ps
 delete_at ps (Some k) = set ps k None
 
+-- the object after its property of text t is deleted, if it has one; `f` gives the text of a name
 abbrev pub with_delete : (Span → List ℕ) → List ℕ → Object → Object
 with_delete f t ob = record ob { properties = delete_at ob.properties (place_named f t ob.properties) }
 
@@ -79,6 +86,7 @@ abbrev pub place_after : ℤ → ℕ
 place_after (pos n) = n
 place_after (negsuc n) = 0
 
+-- the least filled position above k, if there is one
 abbrev pub next_filled : List (Option (Span × Value)) → ℕ → Option ℕ
 next_filled ps k = first_filled k (drop k ps)
 
@@ -86,6 +94,7 @@ next_filled ps k = first_filled k (drop k ps)
 abbrev pub place_in : List (List ℕ) → Heap → ℕ → Span → Option ℕ
 place_in pool h o n = place_named (text_of pool h) (text_of pool h n) (properties_of h.objects o)
 
+-- the value of object o's own property that has the same text as name n, if there is one
 abbrev pub property_in_heap : List (List ℕ) → Heap → ℕ → Span → Option Value
 property_in_heap pool h o n = own_property (text_of pool h) (text_of pool h n) (properties_of h.objects o)
 
@@ -98,8 +107,10 @@ element_at vs (suc k) = slice_get vs k
 abbrev pub next_element : ℕ → ℕ → Option ℕ
 next_element n k = if nat_lt k n then Some (k + 1) else None
 
+-- the value that a walk finds at position p, counted from 1: an array's element, or another object's property
 abbrev pub walked_value : Object → ℕ → Option Value
 walked_value ob p = if is_array ob.what then element_at ob.elements p else the_value (at_position ob.properties p)
 
+-- the position that a walk comes to after position k, if there is one; it begins with k = 0
 abbrev pub walked_next : Object → ℕ → Option ℕ
 walked_next ob k = if is_array ob.what then next_element (length ob.elements) k else next_filled ob.properties k

@@ -7,10 +7,12 @@ use Rattle.abc_heap_store.specs.declared.records.ScopeNode.{ScopeNode}
 abbrev pub scope_id : ℕ → ScopeId
 scope_id n = record { 0 = n }
 
+-- the nodes of scope entries, bottom first; `at` is the number of the first of them, `below` the node under it
 abbrev pub nodes : ℕ → Option ScopeId → List ScopeEntry → List ScopeNode
 nodes at below [] = []
 nodes at below (e ∷ es) = (record { entry = e; parent = below }) ∷ nodes (at + 1) (Some (scope_id at)) es
 
+-- the number of the topmost of these nodes; `below` where there is none
 abbrev pub top : ℕ → Option ScopeId → List ScopeEntry → Option ScopeId
 top at below [] = below
 top at below (e ∷ es) = top (at + 1) (Some (scope_id at)) es

@@ -17,6 +17,7 @@ use Rattle.abc_heap_store.specs.Gaps.{AreGaps}
 use Rattle.abc_heap_store.specs.Buckets.{KeepsIndex}
 use Rattle.abc_heap_store.specs.View.{objects, AreHeads}
 
+-- the spot is that of object o's property of text t: the place of its cell, and its position among o's properties
 pub record IsSpot (f : Span → List ℕ) (t : List ℕ) (cells : List Cell) (heads : List Head) (o : ℕ) (s : Spot) : Type 0 where
   pub at : IsAt (links cells) s.place o Properties s.position
   pub is : place_named f t (properties_of (objects cells 0 heads) o) ≡ Some s.position

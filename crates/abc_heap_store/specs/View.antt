@@ -26,6 +26,7 @@ pub record IsHead (xs : List Link) (o : ℕ) (h : Head) : Type 0 where
   pub properties : IsChain xs o Properties h.properties
   pub elements : IsChain xs o Elements (elements_in h.what)
 
+-- the cells are linked, each head knows the cells of its object, and each cell belongs to an object that has a head
 pub record AreHeads (xs : List Link) (hs : List Head) : Type 0 where
   pub linked : AreLinked xs
   pub heads : (o : ℕ) (h : Head) → slice_get hs o ≡ Some h → IsHead xs o h

@@ -6,6 +6,7 @@ use Rattle.abc_heap_store.specs.declared.records.What.TheVariants as whats
 use Rattle.abc_heap_store.specs.declared.stored.StoredWhat.{StoredWhat}
 use Rattle.abc_heap_store.specs.declared.stored.StoredWhat.TheVariants as kept
 
+-- the object is an array
 abbrev pub is_array : What → Bool
 is_array whats.Array = true
 is_array other = false

@@ -36,6 +36,7 @@ abbrev pub same_object : ObjId → Value → Bool
 same_object o (values.Obj p) = nat_eq o.0 p.0
 same_object o other = false
 
+-- two values are strictly equal; `text` gives the bytes of a span, and `same` tells whether two namespaces are the same
 abbrev pub same_values : (Span → List ℕ) → (ℕ → ℕ → Bool) → Value → Value → Bool
 same_values text same values.Undefined y = is_undefined y
 same_values text same values.Null y = is_null y

@@ -9,6 +9,7 @@ use Rattle.abc_heap_values.specs.declared.cell.Held.{Held}
 use Rattle.abc_heap_values.specs.declared.cell.Held.TheVariants.{Slot, Property, Deleted, Element}
 use Rattle.abc_heap_values.specs.declared.cell.Cell.{Cell}
 
+-- which list of its object a cell belongs to, by what it holds
 abbrev pub lane_of : Held → Lane
 lane_of (Slot v) = Slots
 lane_of (Property n v) = Properties
@@ -33,12 +34,14 @@ is_of o l c = nat_eq c.owner o && same_lane (lane_of c.held) l
 abbrev pub owned : ℕ → Lane → List Cell → List Cell
 owned o l cells = filter (is_of o l) cells
 
+-- the value that a cell holds; undefined for a deleted property
 abbrev pub value_in : Held → Value
 value_in (Slot v) = v
 value_in (Property n v) = v
 value_in (Deleted n) = Undefined
 value_in (Element v) = v
 
+-- the property that a cell holds, its name and its value; none for a slot, an element or a deleted property
 abbrev pub property_in : Held → Option (Span × Value)
 property_in (Slot v) = None
 property_in (Property n v) = Some (n, v)

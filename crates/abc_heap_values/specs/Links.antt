@@ -16,6 +16,7 @@ pub record Link : Type 0 where
 abbrev pub link_of : Cell → Link
 link_of c = record { owner = c.owner; lane = lane_of c.held; position = c.position; before = c.before; jump = c.jump }
 
+-- the cells without what they hold: the owner, the list, the position and the links of each
 abbrev pub links : List Cell → List Link
 links cells = map link_of cells
 
@@ -42,6 +43,7 @@ pub record IsLinked (earlier : List Link) (x : Link) : Type 0 where
   pub before : 0 < x.position → IsAt earlier x.before x.owner x.lane (x.position - 1)
   pub jump : 0 < x.position → IsBelow earlier x.jump x.owner x.lane x.position
 
+-- each cell is linked into the cells before it
 abbrev pub AreLinked : List Link → Type 0
 AreLinked xs = (i : ℕ) (x : Link) → slice_get xs i ≡ Some x → IsLinked (take i xs) x
 

@@ -32,10 +32,12 @@ and_then (Err e) f = Err e
 
 -- ---- convert_d, convert_i, convert_u
 
+-- the number of a truth: 1 for true, 0 for false
 abbrev pub number_of_bool : Bool → ℤ
 number_of_bool true = pos 1
 number_of_bool false = pos 0
 
+-- convert_d: the number of a value, or the fault of one that has none
 abbrev pub number_of : Value → Result ℤ Fault
 number_of values.Undefined = Err NotANumber
 number_of values.Null = Ok (pos 0)
@@ -49,14 +51,17 @@ number_of (values.Obj o) = Err ObjectToPrimitive
 abbrev pub whole_of : Value → Result ℤ Fault
 whole_of v = if is_undefined v then Ok (pos 0) else number_of v
 
+-- convert_i: the number of a value modulo 2 ^ 32, from -2 ^ 31 to 2 ^ 31 - 1
 abbrev pub int_of : Value → Result ℤ Fault
 int_of v = and_then (whole_of v) (λ n. Ok (signed n))
 
+-- convert_u: the number of a value modulo 2 ^ 32, from 0 to 2 ^ 32 - 1
 abbrev pub uint_of : Value → Result ℤ Fault
 uint_of v = and_then (whole_of v) (λ n. Ok (pos (unsigned n)))
 
 -- ---- convert_b
 
+-- the truth of a value: undefined, null, 0, false and the empty text are false, all else is true
 abbrev pub truth_of : Value → Bool
 truth_of values.Undefined = false
 truth_of values.Null = false
@@ -92,5 +97,6 @@ is_modular_single other = true
 abbrev pub operand_of_single : Single → Value → Result ℤ Fault
 operand_of_single op v = if is_modular_single op then whole_of v else number_of v
 
+-- what an operation on one value gives: the value is made a number first
 abbrev pub calculated_single_of : Single → Value → Result ℤ Fault
 calculated_single_of op v = and_then (operand_of_single op v) (λ n. calculated_single op n)

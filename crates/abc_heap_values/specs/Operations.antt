@@ -9,6 +9,7 @@ use Rattle.abc_heap_values.specs.declared.operations.Operation.TheVariants as op
 use Rattle.abc_heap_values.specs.declared.operations.Single.{Single}
 use Rattle.abc_heap_values.specs.declared.operations.Single.TheVariants as singles
 
+-- what an operation gives of two numbers, the left first, or its fault
 abbrev pub calculated : Operation → ℤ → ℤ → Result ℤ Fault
 calculated ops.Add x y = sum x y
 calculated ops.Subtract x y = difference x y
@@ -25,6 +26,7 @@ calculated ops.AddWhole x y = Ok (whole_sum x y)
 calculated ops.SubtractWhole x y = Ok (whole_difference x y)
 calculated ops.MultiplyWhole x y = Ok (whole_product x y)
 
+-- what an operation gives of one number, or its fault
 abbrev pub calculated_single : Single → ℤ → Result ℤ Fault
 calculated_single singles.Negate x = negated x
 calculated_single singles.Increment x = sum x (pos 1)

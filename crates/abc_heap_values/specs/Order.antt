@@ -49,6 +49,7 @@ numbers_hold order (Some a) (Some b) = holds order (int_lt a b) (int_lt b a)
 abbrev pub ordered_numbers : Order → Value → Value → Result Bool Fault
 ordered_numbers order x y = and_then (number_or_none x) (λ a. and_then (number_or_none y) (λ b. Ok (numbers_hold order a b)))
 
+-- whether two values are in the order, the left first: two texts as texts, all else as numbers; `text` gives the bytes of a span
 abbrev pub ordered : (Span → List ℕ) → Order → Value → Value → Result Bool Fault
 ordered text order (values.Text s) (values.Text t) = ordered_texts order (text s) (text t)
 ordered text order x y = ordered_numbers order x y

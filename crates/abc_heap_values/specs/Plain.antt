@@ -9,12 +9,15 @@ use Rattle.abc_base.specs.declared.names.Fault.TheVariants.{Range, NotANumber}
 abbrev pub in_range : ℤ → Result ℤ Fault
 in_range z = if int_le (negsuc 2147483647) z && int_le z (pos 4294967295) then Ok z else Err Range
 
+-- the sum, or a fault where it is out of range
 abbrev pub sum : ℤ → ℤ → Result ℤ Fault
 sum x y = in_range (x +ℤ y)
 
+-- the left less the right, or a fault where that is out of range
 abbrev pub difference : ℤ → ℤ → Result ℤ Fault
 difference x y = in_range (x -ℤ y)
 
+-- the product, or a fault where it is out of range
 abbrev pub product : ℤ → ℤ → Result ℤ Fault
 product x y = in_range (x *ℤ y)
 
@@ -30,5 +33,6 @@ quotient x y = if int_eq y (pos 0) then Err NotANumber else whole_quotient x y
 abbrev pub remainder : ℤ → ℤ → Result ℤ Fault
 remainder x y = if int_eq y (pos 0) then Err NotANumber else Ok (int_rem x y)
 
+-- the number with the other sign, or a fault where that is out of range
 abbrev pub negated : ℤ → Result ℤ Fault
 negated x = in_range (neg_ℤ x)

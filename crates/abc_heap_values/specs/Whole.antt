@@ -4,29 +4,37 @@ use Rattle.std.specs.Prelude.{ℕ, ℤ, pos, ◌+ℤ◌, ◌-ℤ◌, ◌*ℤ◌,
 use Rattle.std.specs.Int.{bit_not, cast_signed, int_shl, int_shr, w32}
 use Rattle.abc_heap_values.specs.Modular.{signed, unsigned}
 
+-- the sum modulo 2 ^ 32
 abbrev pub whole_sum : ℤ → ℤ → ℤ
 whole_sum x y = signed (signed x +ℤ signed y)
 
+-- the left less the right, modulo 2 ^ 32
 abbrev pub whole_difference : ℤ → ℤ → ℤ
 whole_difference x y = signed (signed x -ℤ signed y)
 
+-- the product modulo 2 ^ 32
 abbrev pub whole_product : ℤ → ℤ → ℤ
 whole_product x y = signed (signed x *ℤ signed y)
 
+-- the number with the other sign, modulo 2 ^ 32
 abbrev pub whole_negated : ℤ → ℤ
 whole_negated x = signed (neg_ℤ (signed x))
 
 -- ---- bits: those of the unsigned number, read as a signed one
 
+-- each bit inverted: bitnot
 abbrev pub bits_turned : ℤ → ℤ
 bits_turned x = cast_signed w32 (bit_not w32 (unsigned x))
 
+-- the bits that both numbers have: bitand
 abbrev pub bits_in_both : ℤ → ℤ → ℤ
 bits_in_both x y = cast_signed w32 (bit_and (unsigned x) (unsigned y))
 
+-- the bits that one or both of the numbers have: bitor
 abbrev pub bits_in_either : ℤ → ℤ → ℤ
 bits_in_either x y = cast_signed w32 (bit_or (unsigned x) (unsigned y))
 
+-- the bits that exactly one of the numbers has: bitxor
 abbrev pub bits_in_one : ℤ → ℤ → ℤ
 bits_in_one x y = cast_signed w32 (bit_xor (unsigned x) (unsigned y))
 
@@ -35,6 +43,7 @@ bits_in_one x y = cast_signed w32 (bit_xor (unsigned x) (unsigned y))
 abbrev pub distance : ℤ → ℕ
 distance y = unsigned y % 32
 
+-- x shifted to the left; bits above the lowest 32 are lost
 abbrev pub shifted_left : ℤ → ℤ → ℤ
 shifted_left x y = int_shl w32 (signed x) (distance y)
 
@@ -42,5 +51,6 @@ shifted_left x y = int_shl w32 (signed x) (distance y)
 abbrev pub shifted_right : ℤ → ℤ → ℤ
 shifted_right x y = int_shr (signed x) (distance y)
 
+-- x, read as unsigned, shifted to the right; the result is unsigned
 abbrev pub shifted_right_unsigned : ℤ → ℤ → ℤ
 shifted_right_unsigned x y = pos (unsigned x / 2 ^ distance y)

@@ -23,6 +23,7 @@ decoded (n ∷ bytes) = Some bytes
 abbrev pub noted : (name : List ℕ) → ℕ → Option (List ℕ) → List ℕ
 noted name n bytes = length name ∷ (name ++ n ∷ coded bytes)
 
+-- the list in what `noted` makes of a list, a number and bytes
 abbrev pub name_in : List ℕ → List ℕ
 name_in [] = []
 name_in (k ∷ rest) = take k rest
@@ -39,9 +40,11 @@ abbrev pub first_bytes : List ℕ → Option (List ℕ)
 first_bytes [] = None
 first_bytes (n ∷ code) = decoded code
 
+-- the number in it
 abbrev pub number_in : List ℕ → ℕ
 number_in start = first_number (behind_name start)
 
+-- the bytes in it, where they are known
 abbrev pub bytes_in : List ℕ → Option (List ℕ)
 bytes_in start = first_bytes (behind_name start)
 

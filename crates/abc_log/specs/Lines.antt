@@ -31,6 +31,7 @@ out_line (b ∷ bs) = codes "out " ++ flat_map hex_of (b ∷ bs) ++ 10 ∷ []
 
 -- ---- the end
 
+-- the name of a limit
 abbrev pub limit_name : Limit → List ℕ
 limit_name limits.Objects = codes "Objects"
 limit_name limits.Cells = codes "Cells"
@@ -50,6 +51,7 @@ uncaught_end name = codes "end Uncaught " ++ escaped name ++ 10 ∷ []
 unfoldable pub profile_end : List ℕ → List ℕ
 profile_end name = codes "end Profile " ++ name ++ 10 ∷ []
 
+-- the end of a run that passed a limit
 unfoldable pub limit_end : Limit → List ℕ
 limit_end limit = codes "end Limit " ++ limit_name limit ++ 10 ∷ []
 
@@ -60,6 +62,7 @@ unfoldable pub hex_digits : (k n : ℕ) → List ℕ
 hex_digits zero n = []
 hex_digits (suc k) n = hex_digits k (n / 16) ++ hex_digit (n % 16) ∷ []
 
+-- the first line of a log: the length of the file
 unfoldable pub head_line : ℕ → List ℕ
 head_line n = hex_digits 8 n ++ 10 ∷ []
 
@@ -69,6 +72,7 @@ numbers_of fuel m = fuel ∷ m.objects ∷ m.cells ∷ m.text ∷ m.frames ∷ m
 unfoldable pub limits_text : (fuel : ℕ) → Limits → List ℕ
 limits_text fuel m = codes "limits" ++ flat_map next_number (numbers_of fuel m)
 
+-- the line of the fuel and the limits
 abbrev pub limits_line : (fuel : ℕ) → Limits → List ℕ
 limits_line fuel m = limits_text fuel m ++ 10 ∷ []
 

@@ -22,6 +22,7 @@ abbrev pub shown_byte : (some : Bool) → ℕ → List ℕ
 shown_byte true byte = hex_of byte
 shown_byte false byte = codes "out " ++ hex_of byte
 
+-- the end of the line that shows what a step wrote: none where it wrote nothing
 abbrev pub end_of : (some : Bool) → List ℕ
 end_of true = 10 ∷ []
 end_of false = []

@@ -15,6 +15,7 @@ abbrev pub element_of : declared.ElementName → ElementName
 element_of variants.Length = IsLength
 element_of (variants.Number k) = IsNumber k
 
+-- the element name that code answers, if it answers one
 abbrev pub element_in : Option declared.ElementName → Option ElementName
 element_in None = None
 element_in (Some e) = Some (element_of e)

@@ -34,6 +34,7 @@ LogsLeft l out old left done new before now = LogsIn (left_here l out old left) 
 abbrev pub lines_here : LinkedFile → Outer → State → List ℕ
 lines_here l out s = lines_of (setting l out) (machine s out) (step_here l out s)
 
+-- the step of a state is done, and its lines are written to the log, or a front of them where the log failed
 abbrev pub LogsAs : LinkedFile → Outer → (old : State) → Result Unit Halt → (new : State) → (before now : Option (List ℕ)) → Type 0
 LogsAs l out old done new before now = LogsIn (step_here l out old) (lines_here l out old) out done new before now
 

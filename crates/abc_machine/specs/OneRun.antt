@@ -13,6 +13,7 @@ use Rattle.abc_meaning.specs.Openings.{setting}
 abbrev pub meaning_of : Opened → List Formula → (fuel : ℕ) → Meaning
 meaning_of m formulas fuel = meaning (setting m.linked formulas) m.limits fuel
 
+-- the step log of that run
 abbrev pub log_of : Opened → List Formula → (fuel : ℕ) → List ℕ
 log_of m formulas fuel = log (setting m.linked formulas) m.limits fuel
 

@@ -27,5 +27,6 @@ pub record Begins (l : LinkedFile) (formulas : List Formula) (limits : Limits) (
   pub begun : IsBegun (setting l formulas) limits s
   pub reached : IsReached l (record { formulas = formulas; wrote = [] }) s
 
+-- there are a verified file and a state with which a run of it begins
 abbrev pub SomeRunsBegin : Type 0
 SomeRunsBegin = (l : LinkedFile) × (formulas : List Formula) × (limits : Limits) × (s : State) × Begins l formulas limits s

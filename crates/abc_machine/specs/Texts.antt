@@ -14,6 +14,7 @@ pub record TextsGrow (old new : Heap) : Type 0 where
 abbrev pub CanTell : Opened → Span → Type 0
 CanTell m s = IsText m.linked.file.strings m.world.heap s
 
+-- the bytes of a text of the file or of the machine's heap
 abbrev pub told_text : Opened → Span → List ℕ
 told_text m s = text_of m.linked.file.strings m.world.heap s
 

@@ -9,5 +9,6 @@ has_row op = is_some (row_at op)
 unfoldable pub has_act : ℕ → Bool
 has_act op = is_some (act_of op)
 
+-- an opcode has an act exactly where it has a row
 abbrev pub HasEveryAct : Type 0
 HasEveryAct = (op : ℕ) → op < 256 → has_act op ≡ has_row op

@@ -42,6 +42,7 @@ abbrev pub entered_call : Setting → (method : ℕ) → Outcome Frame → Stepp
 entered_call p m (Went w f) = puts p w f []
 entered_call p m (Stopped w why) = stops_call p m w why
 
+-- what comes of entering a method with these numbers, on the last script's global object: its frame, or an end
 abbrev pub begins_call : Setting → World → (method : ℕ) → List ℤ → Stepped
 begins_call p w m args = entered_call p m (enters_call p m args w)
 
@@ -52,6 +53,7 @@ abbrev pub value_returned : Outcome Act → Value
 value_returned (Went w (Returns v)) = v
 value_returned other = Undefined
 
+-- the value that the newest frame's instruction returns, where it does; else undefined
 abbrev pub returned : Setting → World → List Frame → Value
 returned p w [] = Undefined
 returned p w (f ∷ fs) = value_returned (runs p f (routine_of p f.method) w)

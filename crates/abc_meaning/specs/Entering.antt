@@ -30,6 +30,7 @@ abbrev pub or_double : Option Value → Run Value
 or_double None = fails faults.Double
 or_double (Some v) = done v
 
+-- the value of a parameter's option, taken where the argument is missing; a double is a fault
 abbrev pub gives_option : Setting → Option OptionValue → Run Value
 gives_option p None = stuck
 gives_option p (Some o) = or_double (value_of_option p o)

@@ -364,6 +364,7 @@ wait_after p n = wait_in (stepped p n)
 
 -- ---- what holds of them, each with as much fuel as it takes steps
 
+-- small programs write this and end so
 pub record RunExamples : Type 0 where
   pub returns : meaning empty ample 2 ≡ Ran [] Done
   pub spent : meaning empty ample 1 ≡ Ran [] FuelSpent

@@ -35,6 +35,7 @@ coerces_to_operand a = one a λ v. type_of_operand a >>= λ t. coerces a.setting
 abbrev pub is_it : Setting → Ty → Value → World → Bool
 is_it p t v w = is_of p.linked w.heap t v
 
+-- the value where the truth is true, else null
 abbrev pub or_null : Value → Bool → Value
 or_null v b = if b then v else Null
 

@@ -44,6 +44,7 @@ abbrev pub most_arguments : HostClass → ℕ
 most_arguments hosts.Object = 0
 most_arguments other = 2
 
+-- the message among the arguments of new on such a class, made a text, if one is given; too many are an ArgumentError
 abbrev pub host_arguments : Setting → HostClass → List Value → Run (List Value)
 host_arguments p c args = if nat_le (length args) (most_arguments c) then message_of p args else throws hosts.ArgumentError
 

@@ -51,5 +51,6 @@ abbrev pub meaning_if : Option Limit → Ended → Meaning
 meaning_if (Some limit) r = TooSmall limit
 meaning_if None r = ran r
 
+-- the meaning of a run of this setting, within the limits and with so much fuel
 unfoldable pub meaning : Setting → Limits → (fuel : ℕ) → Meaning
 meaning p limits fuel = meaning_if (too_small (first_world p limits).heap) (runs_for p fuel (first_state p limits))

@@ -51,6 +51,7 @@ abbrev pub dynamic_in : Setting → Option Object → Bool
 dynamic_in p None = false
 dynamic_in p (Some ob) = is_dynamic_layout p ob.layout
 
+-- the value is an object that may be given properties of its own
 abbrev pub is_dynamic : Setting → Value → World → Bool
 is_dynamic p (Obj o) w = dynamic_in p (object o w)
 is_dynamic p v w = false

@@ -22,6 +22,7 @@ space_of (Space n) = done (spaces.One n)
 space_of Null = throws hosts.TypeError
 space_of v = stuck
 
+-- the name, by its form and the parts that the stack has of it, the top first
 abbrev pub named : Setting → Option NameForm → List Value → Run Name
 named p (Some (Whole name)) vs = done name
 named p (Some (NoSpace text)) (s ∷ vs) = space_of s >>= λ of. done (record { spaces = of; text = text })

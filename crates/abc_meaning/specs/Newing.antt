@@ -76,6 +76,8 @@ abbrev pub is_none : Value → Run (Option ObjId)
 is_none Null = done None
 is_none v = throws hosts.TypeError
 
+-- the prototype of the base, where v is the base's class object; none where there is no base and v is null;
+-- any other v is a TypeError
 abbrev pub base_prototype : Option Named → Value → Run (Option ObjId)
 base_prototype None v = is_none v
 base_prototype (Some (named.Host c)) v = is_that (Some (obj_id (host_class_number c))) v

@@ -44,6 +44,7 @@ new_of_host p c what = do
   delegate ← see (prototype_for c)
   new_object p (host_layout p.linked c) delegate what
 
+-- an array of these elements, with the prototype of arrays
 abbrev pub new_array : Setting → List Value → Run ObjId
 new_array p elements = do
   room_for_objects 1
@@ -60,6 +61,7 @@ with_function p method home delegate saved scopes h =
     let what = whats.Closure method home (top_scope saved scopes h) None in
     with_made (start_values p.linked (host_layout p.linked hosts.Function)) (host_layout p.linked hosts.Function) delegate what (with_scopes saved scopes h)
 
+-- a new function of a method, which keeps its home script and the captured scopes
 abbrev pub new_function : Setting → (method home : ℕ) → Option ScopeId → List ScopeEntry → Run ObjId
 new_function p method home saved scopes = do
   delegate ← see (prototype_for hosts.Function)
@@ -83,6 +85,7 @@ without_property p o name h =
 abbrev pub own_place : Setting → ObjId → Span → World → Option ℕ
 own_place p o name w = place_in p.linked.file.strings w.heap o.0 name
 
+-- an object's own property is set: its value is replaced, or a new one takes a cell
 abbrev pub set_property : Setting → ObjId → Span → Value → Run (Unit {0})
 set_property p o name v = do
   place ← see (own_place p o name)

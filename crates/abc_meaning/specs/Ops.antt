@@ -34,6 +34,7 @@ outcome w (Err e) = Stopped w (stop_of e)
 abbrev pub operates : {X : Type 0} → (Heap → Left X) → Run X
 operates f w = outcome (with_heap (λ h. (f h).heap) w) (f w.heap).answer
 
+-- the value is converted
 abbrev pub converts : Setting → Conversion → Value → Run Value
 converts p to v = operates (λ h. converted p.linked h to v)
 
@@ -53,6 +54,7 @@ as_boolean p = converts p ConvertB
 abbrev pub as_text : Setting → Value → Run Value
 as_text p = converts p ConvertS
 
+-- the text of a value, as a span
 abbrev pub spells : Setting → Value → Run Span
 spells p v = operates (λ h. spelled p.linked h v)
 
@@ -74,16 +76,20 @@ coerced l h types.Space v = kept_of l h types.Space v
 coerced l h (types.Of x) v = kept_of l h (types.Of x) v
 coerced l h (types.Interface k) v = kept_of l h (types.Interface k) v
 
+-- the value is coerced to a type
 abbrev pub coerces : Setting → Ty → Value → Run Value
 coerces p t v = operates (λ h. coerced p.linked h t v)
 
 -- ---- by the opcode
 
+-- what the opcode computes of one value
 abbrev pub computes_one : ℕ → Value → Run Value
 computes_one op v = operates (λ h. computed_single h op v)
 
+-- what the opcode computes of two values, the left first
 abbrev pub computes_two : Setting → ℕ → Value → Value → Run Value
 computes_two p op x y = operates (λ h. computed p.linked h op x y)
 
+-- what the opcode of a comparison answers of two values, the left first
 abbrev pub compares : Setting → ℕ → Value → Value → Run Bool
 compares p op x y w = outcome w (compared p.linked w.heap op x y)

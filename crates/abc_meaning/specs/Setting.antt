@@ -36,6 +36,7 @@ pub record Setting : Type 0 where
 
 -- ---- names: what one of the pool leaves to be taken from the stack
 
+-- a name of the pool: whole, or without its namespace, its text or both, which the stack then has
 pub data NameForm : Type 0 where
   Whole : Name → NameForm
   NoSpace : Span → NameForm

@@ -41,6 +41,7 @@ switches a = one a λ v. switched (targets a.here.instr) v >>= λ t. goes (jumps
 
 -- ---- returns: what returns is coerced in the returning frame
 
+-- the frame returns v, coerced to the type that its method returns
 abbrev pub returns : Setting → Frame → Value → Run Act
 returns p f v = some (method_of p f.method) >>= λ m. coerces_to p m.ret v >>= λ r. done (Returns r)
 

@@ -122,6 +122,7 @@ caught_in values = setting
     (file_of [] [] (plain ∷ []) (script 0 [] ∷ []) (catching (handler 0 1 1 0 ∷ []) (body 0 values 2 1 (throw ∷ returnvoid ∷ [])) ∷ []))
     (parts.Global 0 ∷ [])
 
+-- of each test of a step: a state that is stuck by it, and one that differs in one thing and is not
 pub record StuckExamples : Type 0 where
   -- ---- what is run: a method with a body, a place in its code, and an opcode that has a row
   pub method_without_body : Tells (init returnvoid) (record (operands []) { method = 1 }) (operands [])

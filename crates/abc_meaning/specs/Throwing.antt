@@ -33,6 +33,7 @@ pub record Machine : Type 0 where
   pub world : World
   pub frames : List Frame
 
+-- how a run ended; a profile fault has its method and the index of its instruction, here its place
 pub data End : Type 0 where
   Done : End
   Uncaught : Thrown → End
@@ -121,6 +122,7 @@ abbrev pub fault_at : Setting → List Frame → Fault → End
 fault_at p [] fault = Profile (script_at p.linked.file (last_script p)).init 0 fault
 fault_at p (f ∷ fs) fault = Profile f.method f.place fault
 
+-- what a step leaves that goes no further: what is thrown unwinds the frames, and all else ends the run
 abbrev pub stops : Setting → World → List Frame → Stop → Stepped
 stops p w fs (Throws v) = unwinds p w v fs
 stops p w fs (Errs c) = throws_made p fs (new_of_host p c Plain w)

@@ -57,6 +57,7 @@ abbrev pub is_instance_of : LinkedFile → Heap → ℕ → Value → Bool
 is_instance_of l h k (values.Obj o) = names_interface l k (part_at l.parts (object_at h.objects o.0).layout)
 is_instance_of l h k other = false
 
+-- the value is of the type, by computing
 abbrev pub is_of : LinkedFile → Heap → Ty → Value → Bool
 is_of l h types.Any v = true
 is_of l h types.Void v = is_undefined v

@@ -24,6 +24,7 @@ pub data Stop : Type 0 where
   Fills : Limit → Stop
   Sticks : Stop
 
+-- what a part of a step comes to: it went on with a value, or it stopped; and the world that it left
 pub data Outcome (X : Type 0) : Type 0 where
   Went : (world : World) → (value : X) → Outcome X
   Stopped : (world : World) → (why : Stop) → Outcome X
@@ -33,6 +34,7 @@ Run X = World → Outcome X
 
 -- ---- going on and stopping
 
+-- it goes on with x, and changes nothing
 abbrev pub done : {X : Type 0} → X → Run X
 done x w = Went w x
 

@@ -57,6 +57,7 @@ workshop = file_of
 abbrev pub making : Setting
 making = setting workshop (parts.Global 0 ∷ [])
 
+-- that file is verified, its run begins within the limits, writes nothing, and is done
 pub record VerifiedExamples : Type 0 where
   pub verified : IsVerified program
   pub begins : too_small (first_world program ample).heap ≡ None

@@ -30,5 +30,7 @@ pub record IsToldCall (p : Setting) (r : Replied) : Type 0 where
   pub unstuck : r.reply ≢ EndsAs Stuck
   pub placed : (m i : ℕ) (fault : Fault) → r.reply ≡ EndsAs (Profile m i fault) → IsInstruction p.linked.file m i
 
+-- a call of a script's method with numbers, in a sound world of a verified file, leaves a sound world and is never stuck;
+-- a profile fault of it is at an instruction
 abbrev pub CallsCanBeTold : Type 0
 CallsCanBeTold = (p : Setting) (fuel : ℕ) (w : World) (m : ℕ) (args : List ℤ) → IsVerified p → WorldSound p w → IsScriptMethod p m → Each IsNumber args → IsToldCall p (call_meaning p fuel w m args)

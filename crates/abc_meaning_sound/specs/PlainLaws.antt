@@ -7,5 +7,6 @@ use Rattle.abc_meaning_sound.specs.Keeping.{EntrySound}
 use Rattle.abc_verify_typing.specs.Lists.{Each}
 use Rattle.abc_meaning.specs.Setting.{Setting}
 
+-- given the facts of the file and of operations, each act that jumps, moves values alone or is an operation is sound
 abbrev pub PlainActsHold : Type 0
 PlainActsHold = (p : Setting) (typings : Typings) → FileGiven p → OpsGiven p → AreTypings p typings → Each (EntrySound p typings) (jumping_acts (plain_acts (operation_acts [])))

@@ -7,9 +7,11 @@ use Rattle.abc_meaning.specs.Setting.{Setting}
 use Rattle.abc_meaning.specs.ThrowLaws.{AreCounted, IsVerified}
 use Rattle.abc_meaning.specs.Meaning.{first_world, too_small}
 
+-- what a search finds in a sound world is there (`SearchGiven`)
 abbrev pub SearchesFindWhatIsThere : Type 0
 SearchesFindWhatIsThere = (p : Setting) → FileGiven p → ScopesGiven p → SearchGiven p
 
+-- the base of a class whose maker runs has a maker too, which can be run on the object, or is of the host (`MakersGiven`)
 abbrev pub BasesHaveMakers : Type 0
 BasesHaveMakers = (p : Setting) → FileGiven p → ScopesGiven p → MakersGiven p
 

@@ -15,5 +15,6 @@ use Rattle.abc_meaning.specs.World.{World}
 abbrev pub NewsSound : Setting → Typings → Type 0
 NewsSound p typings = (w : World) (v : Value) (args : List Value) → WorldSound p w → Exists p.linked w.heap v → Each (Exists p.linked w.heap) args → Fares p w (new p v args w) (CameSound p typings)
 
+-- where all acts are sound, and so is `new`, a step from a sound state leaves a sound one
 abbrev pub StepsBySoundActs : Type 0
 StepsBySoundActs = (p : Setting) (typings : Typings) (q : Machine) → FileGiven p → OpsGiven p → AreTypings p typings → GroupsHold p typings → NewsSound p typings → IsSound p typings q → SteppedSound p typings (step p q)

@@ -25,6 +25,7 @@ abbrev pub number_from : ℕ → List ℕ → ℕ
 number_from n [] = n
 number_from n (b ∷ bs) = number_from (n * 10 + (b - 48)) bs
 
+-- the number of the element that a text names, if it names one
 abbrev pub element_number : List ℕ → Option ℕ
 element_number t = if is_numeral t && nat_le (number_from 0 t) 4294967294 then Some (number_from 0 t) else None
 

@@ -10,6 +10,7 @@ fixed_bytes = codes "undefinednulltruefalsenumberbooleanstringobjectfunctionmess
 abbrev pub in_fixed : ℕ → ℕ → Span
 in_fixed start len = record { part = 0; start = start; len = len }
 
+-- where a fixed text is in part 0
 abbrev pub fixed_span : FixedText → Span
 fixed_span fixed.Empty = in_fixed 0 0
 fixed_span fixed.Undefined = in_fixed 0 9
@@ -23,6 +24,7 @@ fixed_span fixed.Object = in_fixed 41 6
 fixed_span fixed.Function = in_fixed 47 8
 fixed_span fixed.Message = in_fixed 55 7
 
+-- the bytes of a fixed text
 abbrev pub fixed_name : FixedText → List ℕ
 fixed_name fixed.Empty = codes ""
 fixed_name fixed.Undefined = codes "undefined"

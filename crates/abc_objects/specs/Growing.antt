@@ -9,6 +9,8 @@ pub record Keeps (old new : Object) : Type 0 where
   pub delegate : new.delegate ≡ old.delegate
   pub what : new.what ≡ old.what
 
+-- each object is still there and keeps what it was made as; scopes and made texts are only added at the end;
+-- fixed texts and formulas stay
 pub record Grows (old new : Heap) : Type 0 where
   pub objects : (o : ℕ) → o < length old.objects → (o < length new.objects) × Keeps (object_at old.objects o) (object_at new.objects o)
   pub scopes : (more : List ScopeNode) × (new.scopes ≡ old.scopes ++ more)

@@ -39,16 +39,20 @@ pub record IsFirst {X : Type 0} (test : X → Bool) (xs : List X) (x : X) : Type
   pub passes : test x ≡ true
   pub none : list_any test before ≡ false
 
+-- a search answers its first candidate that fits and is not passed over;
+-- where none is, it answers WrongSide if some candidate fits, else Missing
 abbrev pub AnswersTheFirst : Type 0
 AnswersTheFirst = (l : LinkedFile) (h : Heap) (n : Name) (s : Skip) (cs : List Candidate) →
     ((c : Candidate) × IsFirst (is_answer l h n s) cs c × (answer l h n s cs ≡ found l c))
     ⊎ ((list_any (is_answer l h n s) cs ≡ false) × (answer l h n s cs ≡ (if list_any (fits l h n) cs then founds.WrongSide else founds.Missing)))
 
+-- a search in scopes finds the first place that has the name; where none has it, it answers Missing
 abbrev pub FindsTheFirstPlace : Type 0
 FindsTheFirstPlace = (l : LinkedFile) (h : Heap) (scopes : List ScopeEntry) (saved : Option ScopeId) (started : List Bool) (n : Name) →
     ((p : Place) × IsFirst (has l h n) (places l h scopes saved) p × (found_in_scopes l h scopes saved started n ≡ scope_named h started (Some p)))
     ⊎ ((list_any (has l h n) (places l h scopes saved) ≡ false) × (found_in_scopes l h scopes saved started n ≡ results.Missing))
 
+-- by a name without the public namespace, a search on a value finds declared traits alone
 abbrev pub FindsTraitsAlone : Type 0
 FindsTraitsAlone = (l : LinkedFile) (h : Heap) (v : Value) (n : Name) (want : Want) → holds_public l n.spaces ≡ false → found_on l h v n want ≡ answer l h n (skip_for want) (traits_on l h v)
 
@@ -56,6 +60,7 @@ FindsTraitsAlone = (l : LinkedFile) (h : Heap) (v : Value) (n : Name) (want : Wa
 abbrev pub own_candidates : LinkedFile → ℕ → List Candidate
 own_candidates l x = map (OfTrait x (x ∷ [])) (own l x)
 
+-- where a layout has an own trait that a name finds, the traits of its bases are not asked
 abbrev pub HidesItsBase : Type 0
 HidesItsBase = (l : LinkedFile) (h : Heap) (x : ℕ) (n : Name) (want : Want) → list_any (is_answer l h n (skip_for want)) (own_candidates l x) ≡ true → declared_found l h x x n want ≡ answer l h n (skip_for want) (own_candidates l x)
 
@@ -72,6 +77,7 @@ IsSlotOf l x other = Unit {0}
 abbrev pub FindsASlot : Type 0
 FindsASlot = (l : LinkedFile) → IsLinkedFile l → (h : Heap) (object from : ℕ) (n : Name) (want : Want) → IsSlotOf l from (declared_found l h object from n want)
 
+-- a slot that is found on an object is one of the object's layout
 abbrev pub FindsOwnSlots : Type 0
 FindsOwnSlots = (l : LinkedFile) → IsLinkedFile l → (h : Heap) (o : ObjId) (n : Name) (want : Want) → IsSlotOf l (layout_at h o.0) (found_on l h (values.Obj o) n want)
 
@@ -100,9 +106,11 @@ IsMethodOf l x (founds.Getter m) = HasMethodAbove l x m
 IsMethodOf l x (founds.Setter m) = HasMethodAbove l x m
 IsMethodOf l x other = Unit {0}
 
+-- a method found among declared traits is named by a trait of the layout from which the search begins, or of one above it
 abbrev pub FindsAMethod : Type 0
 FindsAMethod = (l : LinkedFile) (h : Heap) (object from : ℕ) (n : Name) (want : Want) → IsMethodOf l from (declared_found l h object from n want)
 
+-- a method that is found on an object is named by a trait of the object's layout, or of one above it
 abbrev pub FindsOwnMethods : Type 0
 FindsOwnMethods = (l : LinkedFile) (h : Heap) (o : ObjId) (n : Name) (want : Want) → IsMethodOf l (layout_at h o.0) (found_on l h (values.Obj o) n want)
 
@@ -113,5 +121,6 @@ IsThere h (founds.Element holder k) = (x : Value) × (slice_get (elements_of h.o
 IsThere h (founds.Length holder) = is_array (object_at h.objects holder.0).what ≡ true
 IsThere h other = Unit {0}
 
+-- a property, an element or a length that is found on a value is its holder's
 abbrev pub FindsWhatIsThere : Type 0
 FindsWhatIsThere = (l : LinkedFile) (h : Heap) (v : Value) (n : Name) (want : Want) → IsThere h (found_on l h v n want)

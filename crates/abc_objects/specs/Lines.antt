@@ -35,6 +35,7 @@ IsThere strings h (Bool b) = Unit {0}
 IsThere strings h (Space n) = Unit {0}
 IsThere strings h (Obj o) = Unit {0}
 
+-- all values of a list that are texts are there
 abbrev pub AreThere : List (List ℕ) → Heap → List Value → Type 0
 AreThere strings h [] = Unit {0}
 AreThere strings h (t ∷ ts) = IsThere strings h t × AreThere strings h ts

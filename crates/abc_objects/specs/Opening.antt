@@ -27,11 +27,13 @@ use Rattle.abc_link_names.specs.Slots.{slots_of}
 use Rattle.abc_link_names.specs.declared.part.Part.{Part}
 use Rattle.abc_link_names.specs.declared.part.Part.TheVariants as parts
 
+-- the names of the host's formulas
 abbrev pub formula_names : List Formula → List (List ℕ)
 formula_names formulas = map (λ f. f.name) formulas
 
 -- ---- part 0: the fixed texts, and then the names of the host object's properties
 
+-- the names of the host object's properties: the classes of the host, trace, and the formulas, whose names are given
 abbrev pub property_names : List (List ℕ) → List (List ℕ)
 property_names formulas = map class_name host_classes ++ codes "trace" ∷ formulas
 
@@ -48,9 +50,11 @@ spans_from at (t ∷ ts) = in_fixed at (length t) ∷ spans_from (at + length t)
 abbrev pub prototype_id : HostClass → ObjId
 prototype_id c = obj_id (host_number c)
 
+-- the number of the host object, where there are so many formulas
 abbrev pub host_object_number : ℕ → ℕ
 host_object_number formulas = 29 + formulas
 
+-- the number of a script's global object, where there are so many formulas
 abbrev pub global_number : ℕ → ℕ → ℕ
 global_number formulas script = 30 + formulas + script
 
@@ -96,6 +100,7 @@ host_object l names =
     let plain = opened l (parts.Host hosts.Object) (Some hosts.Object) whats.HostObject in
     record plain { properties = host_properties 14 (spans_from (length fixed_bytes) names) }
 
+-- the global object of script s, as it is at opening
 abbrev pub global_object : LinkedFile → ℕ → Object
 global_object l s = opened l (parts.Global s) (Some hosts.Object) (whats.Global s)
 
@@ -144,6 +149,7 @@ slot_counts l scripts = map (slot_count l) (range_with_len 0 scripts)
 abbrev pub global_slots : LinkedFile → ℕ
 global_slots l = sum (slot_counts l (length l.file.scripts))
 
+-- how many objects and cells there are at opening, where there are so many formulas
 abbrev pub opening_counts : LinkedFile → ℕ → Limits
 opening_counts l formulas = record {
   objects = 30 + formulas + length l.file.scripts;
@@ -165,10 +171,12 @@ PassesAtOpening counts limits Text = ⊥
 PassesAtOpening counts limits Frames = ⊥
 PassesAtOpening counts limits Stack = ⊥
 
+-- why no heap is opened: for want of memory, or since what there is at opening passes a limit
 abbrev pub IsUnopened : Limits → Limits → OpenError → Type 0
 IsUnopened counts limits errors.NoMemory = Unit {0}
 IsUnopened counts limits (errors.TooSmall which) = PassesAtOpening counts limits which
 
+-- the heap is the opening one of a linked file, of formulas with these names and of limits, and it is within the limits
 abbrev pub IsOpened : LinkedFile → List (List ℕ) → Limits → Heap → Type 0
 IsOpened l formulas limits h = IsWithin (opening_counts l (length formulas)) limits × (h ≡ opening l formulas limits)
 

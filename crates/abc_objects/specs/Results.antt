@@ -14,6 +14,7 @@ abbrev pub skip_for : Want → Skip
 skip_for wants.Read = Setters
 skip_for wants.Write = Getters
 
+-- a search passes over such a member
 abbrev pub passes_over : Skip → Member → Bool
 passes_over Setters (members.Setter m) = true
 passes_over Getters (members.Getter m) = true
@@ -26,6 +27,7 @@ or_next WrongSide Missing = WrongSide
 or_next WrongSide next = next
 or_next hit next = hit
 
+-- what is found is neither WrongSide nor Missing
 abbrev pub is_hit : Found → Bool
 is_hit WrongSide = false
 is_hit Missing = false

@@ -13,6 +13,7 @@ use Rattle.abc_objects.specs.declared.name.Spaces.TheVariants as forms
 use Rattle.abc_objects.specs.declared.traits.TraitSpace.{TraitSpace}
 use Rattle.abc_objects.specs.declared.traits.TraitSpace.TheVariants as spaces
 
+-- a name holds the public namespace
 abbrev pub holds_public : LinkedFile → Spaces → Bool
 holds_public l forms.Any = true
 holds_public l forms.Public = true
@@ -43,6 +44,7 @@ abbrev pub protected_in : LinkedFile → Part → Option ℕ
 protected_in l (parts.Instance k) = above_zero (instance_at l.file k).protected_ns
 protected_in l other = None
 
+-- the protected namespace of the class whose instances have layout x, if it has one
 abbrev pub protected_of : LinkedFile → ℕ → Option ℕ
 protected_of l x = protected_in l (part_at l.parts x)
 

@@ -83,9 +83,11 @@ host_layout l c = (layout_of l (parts.Host c)).0
 abbrev pub class_object_layout : LinkedFile → ℕ → ℕ
 class_object_layout l k = (layout_of l (parts.ClassObject k)).0
 
+-- what class k is made of: its home script, its layouts, the prototype of its base, and the delegate of its class object
 abbrev pub class_parts : LinkedFile → ℕ → ℕ → Option ObjId → Option ObjId → ClassParts
 class_parts l k home base delegate = record { class = k; home = home; prototype_layout = host_layout l hosts.Object; class_layout = class_object_layout l k; base_prototype = base; delegate = delegate }
 
+-- the layout of arrays
 abbrev pub array_layout : LinkedFile → ℕ
 array_layout l = host_layout l hosts.Array
 
@@ -128,9 +130,11 @@ abbrev pub object_in : Option Value → Option ObjId
 object_in (Some (values.Obj o)) = Some o
 object_in other = None
 
+-- the prototype of the class whose class object is object o: what its first slot holds, if that is an object
 abbrev pub prototype_of : Heap → ℕ → Option ObjId
 prototype_of h o = object_in (slice_get (slots_of_object h.objects o) 0)
 
+-- the prototype of arrays
 abbrev pub array_prototype : Heap → Option ObjId
 array_prototype h = prototype_of h (host_class_number hosts.Array)
 
@@ -144,6 +148,7 @@ pub record HasOpening (l : LinkedFile) (h : Heap) : Type 0 where
   pub scopes : (s : ℕ) (n : ScopeNode) → slice_get (opening_scopes l (length h.formulas)) s ≡ Some n → slice_get h.scopes s ≡ Some n
   pub few : length h.formulas ≤ 64
 
+-- a heap stands over a linked file: all that it names is there, and each object is what its layout says
 pub record StandsOver (l : LinkedFile) (h : Heap) : Type 0 where
   -- the file is linked, and the values with which slots start exist
   pub linked : IsLinkedFile l

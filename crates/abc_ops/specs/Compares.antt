@@ -24,5 +24,6 @@ compared_as l h Equal x y = or_fault (equal_values (text_of l.file.strings h) (s
 compared_as l h StrictlyEqual x y = Ok (same_values (text_of l.file.strings h) (same_space l.file) x y)
 compared_as l h (Ordered order) x y = or_fault (ordered (text_of l.file.strings h) order x y)
 
+-- what the opcode of a comparison answers of two values, the left first, or why it has no answer
 abbrev pub compared : LinkedFile → Heap → ℕ → Value → Value → Result Bool OpEnd
 compared l h op x y = compared_as l h (comparison_of op) x y

@@ -40,6 +40,7 @@ objected v = if is_nothing v then Err (ends.Throw hosts.TypeError) else Ok v
 abbrev pub text_or_null : LinkedFile → Heap → Value → Left Value
 text_or_null l h v = if is_nothing v then gives h values.Null else as_value (spelled l h v)
 
+-- what a conversion gives of a value, and the heap that it leaves
 abbrev pub converted : LinkedFile → Heap → Conversion → Value → Left Value
 converted l h conversions.ConvertS v = as_value (spelled l h v)
 converted l h conversions.ConvertI v = unchanged h (number_or_fault (int_of v))

@@ -35,6 +35,7 @@ pub record ConvertsModulo (l : LinkedFile) (h : Heap) (n : ℤ) : Type 0 where
   pub uint_modulo : IsModulo (pos 0) (pos 4294967295) n uint
   pub is_uint : converted l h ConvertU (Num n) ≡ gives h (Num uint)
 
+-- convert_i and convert_u give each number modulo 2 ^ 32, signed and unsigned
 abbrev pub IntegersAreModulo : Type 0
 IntegersAreModulo = (l : LinkedFile) (h : Heap) (n : ℤ) → ConvertsModulo l h n
 
@@ -47,6 +48,7 @@ low_five n = pos (unsigned n % 32)
 abbrev pub UsesFiveBits : ℕ → Type 0
 UsesFiveBits op = (l : LinkedFile) (h : Heap) (x : Value) (n : ℤ) → computed l h op x (Num n) ≡ computed l h op x (Num (low_five n))
 
+-- the three shifts use the low five bits of the right operand alone
 abbrev pub ShiftsUseFiveBits : Type 0
 ShiftsUseFiveBits = UsesFiveBits op.LSHIFT × UsesFiveBits op.RSHIFT × UsesFiveBits op.URSHIFT
 
@@ -59,6 +61,7 @@ pub record IsRemainder (x y r : ℤ) : Type 0 where
   pub not_negative : pos 0 ≤ℤ x → pos 0 ≤ℤ r
   pub not_positive : x ≤ℤ pos 0 → r ≤ℤ pos 0
 
+-- a number that modulo gives is the remainder, with the dividend's sign
 abbrev pub ModuloHasTheSign : Type 0
 ModuloHasTheSign = (l : LinkedFile) (h : Heap) (x y r : ℤ) → computed l h op.MODULO (Num x) (Num y) ≡ gives h (Num r) → IsRemainder x y r
 
@@ -69,6 +72,7 @@ pub record IsStrict (l : LinkedFile) (h : Heap) : Type 0 where
   pub answers : (x y : Value) → compared l h op.STRICTEQUALS x y ≡ Ok (same x y)
   pub equivalence : IsEquivalence same
 
+-- strictequals answers of any two values, and as an equivalence
 abbrev pub StrictEqualsIsEquivalence : Type 0
 StrictEqualsIsEquivalence = (l : LinkedFile) (h : Heap) → IsStrict l h
 
@@ -80,6 +84,7 @@ pub record AreOpposed {E : Type 0} (forth back : Order → Result Bool E) : Type
   pub greater : (r : Bool) → back Less ≡ Ok r → forth Greater ≡ Ok r
   pub greater_or_equal : (r : Bool) → forth Less ≡ Ok r → forth GreaterOrEqual ≡ Ok (not r)
 
+-- of two values other than undefined, all four orders answer what lessthan says of them, or of the two exchanged
 abbrev pub OrdersAreOpposed : Type 0
 OrdersAreOpposed = (l : LinkedFile) (h : Heap) (x y : Value) → is_undefined x ≡ false → is_undefined y ≡ false → AreOpposed (λ (o : Order). compared_as l h (Ordered o) x y) (λ (o : Order). compared_as l h (Ordered o) y x)
 

@@ -37,6 +37,7 @@ abbrev pub text_made_if : Bool → Heap → List ℕ → Left Span
 text_made_if true h bytes = gives (record h { made = h.made ++ bytes }) (record { part = 1; start = length h.made; len = length bytes })
 text_made_if false h bytes = ends_by h (ends.Full limits.Text)
 
+-- a text of these bytes is made, after all others; where there is no room, the limit of text ends it
 abbrev pub text_made : Heap → List ℕ → Left Span
 text_made h bytes = text_made_if (nat_le (length h.made + length bytes) h.limits.text) h bytes
 

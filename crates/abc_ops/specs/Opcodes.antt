@@ -9,6 +9,7 @@ use Rattle.abc_ops.specs.declared.opcodes.Comparison.TheVariants.{Equal, Strictl
 use Rattle.abc_heap_values.specs.declared.order.Order.TheVariants.{Less, LessOrEqual, Greater, GreaterOrEqual}
 use Rattle.abc_file_types.specs.declared.op.TheConstants as op
 
+-- the operation of an opcode that computes of two values
 abbrev pub operation_of : ℕ → Operation
 operation_of code =
     if nat_eq code op.ADD then ops.Add
@@ -26,6 +27,7 @@ operation_of code =
     else (if nat_eq code op.SUBTRACT_I then ops.SubtractWhole
     else ops.MultiplyWhole))))))))))))
 
+-- the operation of an opcode that computes of one value, but for not and typeof
 abbrev pub single_of : ℕ → Single
 single_of code =
     if nat_eq code op.NEGATE then singles.Negate
@@ -36,6 +38,7 @@ single_of code =
     else (if nat_eq code op.DECREMENT_I then singles.DecrementWhole
     else singles.NegateWhole)))))
 
+-- the comparison of an opcode that compares two values
 abbrev pub comparison_of : ℕ → Comparison
 comparison_of code =
     if nat_eq code op.EQUALS then Equal

@@ -37,6 +37,7 @@ type_name h (values.Obj o) = name_of_what (object_at h.objects o.0).what
 
 -- ---- one value
 
+-- what the opcode `code` computes of one value, and the heap that is left
 abbrev pub computed_single : Heap → ℕ → Value → Left Value
 computed_single h code v =
     if nat_eq code op.TYPEOF then gives h (values.Text (fixed_span (type_name h v)))
@@ -57,6 +58,7 @@ joined_to l h a y = followed (spelled l h y) (λ k b. joined_texts l k a b)
 abbrev pub joined : LinkedFile → Heap → Value → Value → Left Value
 joined l h x y = followed (spelled l h x) (λ k a. joined_to l k a y)
 
+-- what the opcode `code` computes of two values, the left first, and the heap that is left: add joins where one is a text
 abbrev pub computed : LinkedFile → Heap → ℕ → Value → Value → Left Value
 computed l h code x y =
     if nat_eq code op.ADD && (is_text x || is_text y) then joined l h x y

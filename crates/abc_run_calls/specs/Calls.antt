@@ -44,6 +44,7 @@ object_settles how f m = settled_by how f (m >>= λ o. got (Obj o))
 
 -- ---- calls
 
+-- the callee is called on the receiver with the top operands, so many, and what comes settles
 abbrev pub calls_value : Setting → (callee receiver : Value) → (count : ℕ) → How → Frame → Run Act
 calls_value p callee receiver count how f = settled_by how f (calls p callee receiver (arguments count f))
 
@@ -67,6 +68,7 @@ pub record Finishes (l : LinkedFile) (count : ℕ) (how : How) (s : State) : Typ
   pub ready : IsReady (taken_by how) (given_by how) s.frames
   pub enough : count ≤ taken_by how
 
+-- what code left to be done can be done: a line to be written, or a formula to be asked, has its arguments
 abbrev pub CanFinish : LinkedFile → Result Left Stop → State → Type 0
 CanFinish l (Ok lefts.Goes) s = Unit {0}
 CanFinish l (Ok (lefts.Returns v)) s = Unit {0}
@@ -76,6 +78,7 @@ CanFinish l (Err e) s = Unit {0}
 
 -- ---- `new`
 
+-- new on a value, with the top operands as its arguments, so many; what comes settles
 abbrev pub makes_value : Setting → Value → (count : ℕ) → How → Frame → Run Act
 makes_value p v count how f = settled_by how f (new p v (arguments count f))
 
@@ -97,10 +100,12 @@ abbrev pub texts : Option Span → List Value
 texts None = []
 texts (Some t) = Text t ∷ []
 
+-- the message as a list, of one value or none
 abbrev pub messaged : Result (Option Span) Stop → Result (List Value) Stop
 messaged (Ok message) = Ok (texts message)
 messaged (Err e) = Err e
 
+-- the message, if there is one, is a text that is there
 abbrev pub IsMessage : LinkedFile → Heap → Option Span → Type 0
 IsMessage l h None = Unit {0}
 IsMessage l h (Some t) = IsText l.file.strings h t

@@ -29,9 +29,11 @@ above taken wait f g = done (Goes (Above g (waiting wait (dropped taken f))))
 abbrev pub puts_on : Setting → (method : ℕ) → Place → (this : Value) → List Value → (count taken : ℕ) → Wait → Frame → Run Act
 puts_on p n at this vs count taken wait f = some (method_of p n) >>= λ m. framed p n m this at (arguments count f) vs >>= above taken wait f
 
+-- a method is entered with the top operands, so many, above a frame that waits; so many operands of that are taken
 abbrev pub enters_above : Setting → (method : ℕ) → Value → Place → (count taken : ℕ) → Wait → Frame → Run Act
 enters_above p n this at count taken wait f = enters p n this at (arguments count f) >>= above taken wait f
 
+-- a method is entered so, with the home script and the saved scope that its owner keeps
 abbrev pub enters_owned_above : Setting → (method : ℕ) → Value → (count taken : ℕ) → Wait → Frame → Run Act
 enters_owned_above p n this count taken wait f = enters_owned p n this (arguments count f) >>= above taken wait f
 

@@ -21,6 +21,7 @@ end_of (ended.Uncaught thrown) = Uncaught thrown
 end_of (ended.Profile method index fault) = Profile method index fault
 end_of (ended.Full limit) = Full limit
 
+-- what a step leaves, by what code answers: it goes on with these frames, or the run ended
 abbrev pub stepped_by : Result Unit Ended → World → Frames → Stepped
 stepped_by (Ok u) w q = goes_on w q.living
 stepped_by (Err e) w q = Ends w (end_of e)

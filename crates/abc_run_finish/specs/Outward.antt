@@ -34,6 +34,7 @@ pub record Fails (p : LinkedFile) (out : Outer) (count : ℕ) (how : How) (old n
   pub heap : world_then.heap ≡ new.arena
   pub sink : IsSome before → GrowsByFront before now bytes
 
+-- the line of trace is written; or the step stops before that, and nothing is; or writing it failed
 abbrev pub TracesAs : LinkedFile → Outer → (count : ℕ) → How → (old : State) → Result Unit Unwritten → (new : State) → (before now : Option (List ℕ)) → Type 0
 TracesAs l out count how old (Ok u) new before now = Writes l out count how old new before now
 TracesAs l out count how old (Err (unwritten.Stops e)) new before now = (traced (setting l out) count how (world old out) old.frames ≡ Halts (world new out) (bared new.frames) (why e)) × (now ≡ before)

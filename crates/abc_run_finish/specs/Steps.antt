@@ -67,6 +67,7 @@ pub record FailsIn (r : Stepped) (out : Outer) (new : State) (before now : Optio
   pub heap : next.world.heap ≡ new.arena
   pub sink : IsSome before → GrowsByFront before now bytes
 
+-- code did a step of the meaning, which leaves r: it goes on or ends as that says, or writing the bytes failed
 abbrev pub StepsIn : Stepped → Outer → Result Unit Halt → (new : State) → (before now : Option (List ℕ)) → Type 0
 StepsIn r out (Ok u) new before now = GoesOnIn r out new before now
 StepsIn r out (Err (halts.Returns v)) new before now = EndsIn r out new Done before now
@@ -83,6 +84,7 @@ EndsAs l out old new end before now = EndsIn (step_here l out old) out new end b
 abbrev pub FailsAs : LinkedFile → Outer → (old new : State) → (before now : Option (List ℕ)) → Type 0
 FailsAs l out old new before now = FailsIn (step_here l out old) out new before now
 
+-- code did the step of the old state
 abbrev pub StepsAs : LinkedFile → Outer → (old : State) → Result Unit Halt → (new : State) → (before now : Option (List ℕ)) → Type 0
 StepsAs l out old r new before now = StepsIn (step_here l out old) out r new before now
 

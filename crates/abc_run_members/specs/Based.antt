@@ -9,11 +9,13 @@ use Rattle.abc_link_names.specs.declared.part.Part.TheVariants as parts
 use Rattle.abc_run_members.specs.declared.bases.Base.{Base}
 use Rattle.abc_run_members.specs.declared.bases.Base.TheVariants as bases
 
+-- the base in the words of the meaning, if there is one
 abbrev pub named_of : Base → Option Named
 named_of bases.Nothing = None
 named_of (bases.Class k) = Some (named.Class k)
 named_of (bases.Host c) = Some (named.Host c)
 
+-- a base that is given by the number of a class is a class of the file
 abbrev pub IsBase : LinkedFile → Base → Type 0
 IsBase l bases.Nothing = Unit {0}
 IsBase l (bases.Class k) = k < length l.file.instances

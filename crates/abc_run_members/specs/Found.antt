@@ -17,6 +17,7 @@ use Rattle.abc_meaning.specs.Supers.{strict}
 use Rattle.abc_meaning.specs.Setting.{Setting}
 use Rattle.abc_meaning.specs.World.{World}
 
+-- what the search in scopes finds for a name, from a frame
 abbrev pub find_in_scopes : Setting → Frame → Name → World → ScopeFound
 find_in_scopes p f name w = found_in_scopes p.linked w.heap f.scopes f.saved w.started name
 

@@ -54,6 +54,7 @@ abbrev pub enters_on : Setting → (method : ℕ) → Value → List Value → R
 enters_on p m (Obj o) args = enters_owned p m (Obj o) args >>= entered
 enters_on p m v args = stuck
 
+-- the method that was found is entered on v with the top operands, so many, and what comes settles
 abbrev pub enters_found : Setting → (method : ℕ) → Value → (count : ℕ) → How → Frame → Run Act
 enters_found p m v count how f = settled_by how f (enters_on p m v (arguments count f))
 
@@ -62,6 +63,7 @@ abbrev pub value_read : Setting → Found → Value → Run Value
 value_read p (Method owner m) (Obj o) = bound_function p owner m o
 value_read p found v = value_found p found v
 
+-- what was found on v is read: a getter is entered, and what comes settles
 abbrev pub reads_found : Setting → Found → Value → How → Frame → Run Act
 reads_found p found v how f = settled_by how f (read_found p found v)
 
@@ -90,6 +92,7 @@ value_written p o name x initial WrongSide = throws hosts.ReferenceError
 value_written p o name x initial Missing = public_written p o name x
 value_written p o name x initial found = stuck
 
+-- x is written to what a name found among an object's declared traits: a setter is entered, and what comes settles
 abbrev pub writes_found : Setting → ObjId → Name → Value → (initial : Bool) → Found → How → Frame → Run Act
 writes_found p o name x initial found how f = settled_by how f (write_found p o name x initial found)
 
@@ -101,6 +104,7 @@ writes_value p o name x initial found how f = settled_by how f (value_written p 
 abbrev pub calls_value_found : Setting → Found → (v receiver : Value) → (count : ℕ) → How → Frame → Run Act
 calls_value_found p found v receiver count how f = settled_by how f (value_found p found v >>= λ x. calls p x receiver (arguments count f))
 
+-- what was found on v is called with the top operands, so many, and what comes settles
 abbrev pub calls_found : Setting → Found → (v receiver : Value) → (count : ℕ) → How → Frame → Run Act
 calls_found p found v receiver count how f = settled_by how f (call_found p found v receiver (arguments count f))
 
@@ -122,26 +126,32 @@ constructs_found p found v under count f = read_found p found v >>= constructs_o
 
 -- ---- by a name, on a value
 
+-- what a name finds on v is read, and settles
 abbrev pub reads_on : Setting → Value → Name → How → Frame → Run Act
 reads_on p v name how f = settled_by how f (reads p v name)
 
+-- x is written on v under a name, and what comes settles; `initial` writes constant slots too
 abbrev pub writes_on : Setting → Value → Name → Value → (initial : Bool) → How → Frame → Run Act
 writes_on p v name x initial how f = settled_by how f (writes_to p v name x initial)
 
+-- what a name finds on v is called on the receiver with the top operands, so many, and what comes settles
 abbrev pub calls_on : Setting → (v receiver : Value) → Name → (count : ℕ) → How → Frame → Run Act
 calls_on p v receiver name count how f = settled_by how f (calls_name p v receiver name (arguments count f))
 
+-- what a name finds on v is read, and new is done on it with the top operands, so many; so many others leave from under them
 abbrev pub constructs_on : Setting → Value → Name → (under count : ℕ) → Frame → Run Act
 constructs_on p v name under count f = reads p v name >>= constructs_of p under count f
 
 -- ---- by the name of an instruction: its parts are over the object
 
+-- how many parts of a name of the pool the stack has
 abbrev pub parts_at : Setting → ℕ → ℕ
 parts_at p n = parts_count (form_at p n)
 
 abbrev pub holder_under : Setting → (name above : ℕ) → Frame → Value
 holder_under p n above f = operand_at (above + parts_at p n) f
 
+-- getproperty
 abbrev pub gets_named : Setting → ℕ → Frame → Run Act
 gets_named p n f = settled_by (Push (parts_at p n + 1)) f (named_here p n 0 f >>= reads p (operand_at (parts_at p n) f))
 
@@ -158,15 +168,19 @@ calls_named p n count lexical how f = settled_by how f (named_here p n count f >
 
 -- `call`, `construct`, and callproperty with its two like, of which one drops what comes
 
+-- call: the function is under its receiver, and that under the arguments
 abbrev pub calls_operand : Setting → (count : ℕ) → Frame → Run Act
 calls_operand p count f = calls_value p (operand_at (count + 1) f) (operand_at count f) count (Push (count + 2)) f
 
+-- construct: new is done on the value under the arguments
 abbrev pub constructs_operand : Setting → (count : ℕ) → Frame → Run Act
 constructs_operand p count f = makes_value p (operand_at count f) count (Push (count + 1)) f
 
+-- callproperty, callproplex, which has no receiver, and callpropvoid, which drops what comes
 abbrev pub calls_property : Setting → ℕ → (count : ℕ) → (lexical drops : Bool) → Frame → Run Act
 calls_property p n count lexical drops f = calls_named p n count lexical (how_for drops (count + parts_at p n + 1)) f
 
+-- constructprop: what the name finds on the value under its parts and the arguments is read, and new is done on that
 abbrev pub constructs_named : Setting → ℕ → (count : ℕ) → Frame → Run Act
 constructs_named p n count f = named_here p n count f >>= reads p (holder_under p n count f) >>= constructs_of p (parts_at p n + 1) count f
 

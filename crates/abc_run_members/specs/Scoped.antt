@@ -46,9 +46,11 @@ pushes_or_global p found n f = found_in p f found (λ o. pushes_in n f (Obj o)) 
 abbrev pub finds_with : Setting → ℕ → (ScopeFound → Name → (parts : ℕ) → Frame → Run Act) → Frame → Run Act
 finds_with p n go f = named_here p n 0 f >>= λ name. see (find_in_scopes p f name) >>= λ found. go found name (parts_count (form_at p n)) f
 
+-- findpropstrict: the object in which the name is found; without one, a ReferenceError
 abbrev pub finds_strictly : Setting → ℕ → Frame → Run Act
 finds_strictly p n f = finds_with p n (λ found name. pushes_strictly p found) f
 
+-- findproperty: the object in which the name is found; without one, the global object of the frame's home script
 abbrev pub finds_or_global : Setting → ℕ → Frame → Run Act
 finds_or_global p n f = finds_with p n (λ found name. pushes_or_global p found) f
 

@@ -39,6 +39,7 @@ use Rattle.abc_run_members.specs.Scoped.{found_in, finds_with}
 abbrev pub reads_in : Setting → ScopeFound → Name → (parts : ℕ) → Frame → Run Act
 reads_in p found name n f = found_in p f found (λ o. settled_by (Push n) f (reads p (Obj o) name)) (throws hosts.ReferenceError)
 
+-- getlex: the name is found in scopes, and then read on the object that has it
 abbrev pub finds_and_reads : Setting → ℕ → Frame → Run Act
 finds_and_reads p n f = finds_with p n (reads_in p) f
 
@@ -60,12 +61,15 @@ calls_super_on p from v name args = on_receiver v (λ o. super_found p from o na
 
 -- by the name of the instruction: its parts are over the receiver
 
+-- getsuper: the search begins above the layout `from`
 abbrev pub gets_super : Setting → ℕ → (from : ℕ) → Frame → Run Act
 gets_super p n from f = settled_by (Push (parts_at p n + 1)) f (named_here p n 0 f >>= reads_super p from (operand_at (parts_at p n) f))
 
+-- setsuper: the search begins above the layout `from`
 abbrev pub sets_super : Setting → ℕ → (from : ℕ) → Frame → Run Act
 sets_super p n from f = settled_by (Drop (parts_at p n + 2)) f (named_here p n 1 f >>= λ name. writes_super p from (holder_under p n 1 f) name (operand_at 0 f))
 
+-- callsuper and callsupervoid: the search begins above the layout `from`
 abbrev pub calls_super : Setting → ℕ → (from count : ℕ) → How → Frame → Run Act
 calls_super p n from count how f = settled_by how f (named_here p n count f >>= λ name. calls_super_on p from (holder_under p n count f) name (arguments count f))
 
@@ -85,5 +89,6 @@ tells_base p o c count f = settled_by (Drop (count + 1)) f (told_base p o c coun
 abbrev pub constructs_base : Setting → Value → (class count : ℕ) → Frame → Run Act
 constructs_base p v k count f = settled_by (Drop (count + 1)) f (on_receiver v (λ o. runs_base p o count f (base_named p.linked.file k)))
 
+-- constructsuper: the maker of the base of the class is run on the object under the arguments
 abbrev pub constructs_super : Setting → (class count : ℕ) → Frame → Run Act
 constructs_super p k count f = constructs_base p (operand_at count f) k count f

@@ -10,6 +10,7 @@ use Rattle.abc_meaning.specs.Setting.{Setting}
 use Rattle.abc_meaning.specs.World.{Run, ◌>>=◌}
 use Rattle.abc_run_names.specs.Named.{form_at, named_here, parts_count}
 
+-- deleteproperty: what the name finds on the value under its parts is deleted, and a truth is pushed
 abbrev pub deletes_named : Setting → ℕ → Frame → Run Act
 deletes_named p n f =
     let parts = parts_count (form_at p n) in

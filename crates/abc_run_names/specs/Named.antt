@@ -11,6 +11,7 @@ use Rattle.abc_run_state.specs.Operands.{operand_at}
 use Rattle.abc_meaning.specs.Setting.{NameForm, NoPart, NoSpace, NoText, Setting, Whole}
 use Rattle.abc_meaning.specs.World.{Run}
 
+-- the form of a name of the pool: which of its parts the stack has
 abbrev pub form_at : Setting → ℕ → Option NameForm
 form_at p n = form_in p (name_at p.linked n)
 
@@ -30,6 +31,7 @@ HasParts (Some (NoSpace text)) above f = above < length f.stack
 HasParts (Some (NoText of)) above f = above < length f.stack
 HasParts (Some NoPart) above f = above + 1 < length f.stack
 
+-- the name of an instruction, whose parts are under so many operands
 abbrev pub named_here : Setting → (name above : ℕ) → Frame → Run Name
 named_here p n above f = named p (form_at p n) (parts_for (form_at p n) above f)
 

@@ -27,6 +27,7 @@ on_numbered p n v f = stuck
 abbrev pub reads_numbered : Setting → ℕ → Frame → Run Act
 reads_numbered p n f = pushes 1 f (on_numbered p n (operand_at 0 f) (λ o ob k. some (slice_get ob.slots k)))
 
+-- setslot: the top operand goes into the slot of this number of the object under it
 abbrev pub writes_numbered : Setting → ℕ → Frame → Run Act
 writes_numbered p n f = on_numbered p n (operand_at 1 f) (λ o ob k. write_slot p o k (operand_at 0 f)) >> goes (next (dropped 2 f))
 

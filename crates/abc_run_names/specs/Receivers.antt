@@ -15,6 +15,7 @@ receiver_of (Truth b) = stuck
 receiver_of (Text t) = stuck
 receiver_of (Space n) = stuck
 
+-- the value is an object or null
 abbrev pub IsReceiver : Value → Type 0
 IsReceiver (Obj o) = Unit {0}
 IsReceiver Null = Unit {0}

@@ -16,9 +16,11 @@ use Rattle.abc_run_state.specs.Settling.{pushes}
 abbrev pub pushes_next : Frame → Run Act
 pushes_next f = pushes 2 f (see (has_next (operand_at 1 f) (operand_at 0 f)))
 
+-- nextname: the name at the position on top, of the object under it
 abbrev pub pushes_name : Frame → Run Act
 pushes_name f = pushes 2 f (see (walked (operand_at 1 f)) >>= λ ob. name_in ob (position (operand_at 0 f)))
 
+-- nextvalue: the value at the position on top, of the object under it
 abbrev pub pushes_value : Frame → Run Act
 pushes_value f = pushes 2 f (see (walked (operand_at 1 f)) >>= λ ob. done (value_in ob (position (operand_at 0 f))))
 

@@ -56,10 +56,12 @@ IsPlace (Obj o) = Unit {0}
 
 -- ---- the next filled position, or 0
 
+-- the next filled position of an object above k, if there is one
 abbrev pub next_in : Option Object → ℕ → Option ℕ
 next_in None k = None
 next_in (Some ob) k = walked_next ob k
 
+-- a position as a value, and 0 where there is none
 abbrev pub number_or_zero : Option ℕ → Value
 number_or_zero None = Num (pos 0)
 number_or_zero (Some k) = Num (pos k)
@@ -70,6 +72,7 @@ abbrev pub value_or_undefined : Option Value → Value
 value_or_undefined None = Undefined
 value_or_undefined (Some v) = v
 
+-- the value at a position of an object; undefined where there is none
 abbrev pub value_in : Option Object → ℕ → Value
 value_in None k = Undefined
 value_in (Some ob) k = value_or_undefined (walked_value ob k)
@@ -103,5 +106,6 @@ abbrev pub first_position : Heap → List ℕ → Option Position
 first_position h [] = None
 first_position h (o ∷ os) = or_later (position_at o (walked_next (object_at h.objects o) 0)) (first_position h os)
 
+-- the next filled position of object o above k; else the first position of the first of its delegates that has one
 abbrev pub next_along_from : Heap → ℕ → ℕ → Option Position
 next_along_from h o k = or_later (position_at o (walked_next (object_at h.objects o) k)) (first_position h (way (delegate_at h) (delegate_at h o)))

@@ -27,9 +27,11 @@ pushes_function p method f = pushes 0 f (object_value (new_function p method f.h
 abbrev pub scope_object : Setting → ℕ → What → Run Value
 scope_object p layout what = see (prototype_for hosts.Object) >>= λ d. object_value (new_object p layout d what)
 
+-- newactivation: the activation object of the body is made and pushed
 abbrev pub pushes_activation : Setting → (body : ℕ) → Frame → Run Act
 pushes_activation p b f = pushes 0 f (scope_object p (layout_of p.linked (parts.Activation b)).0 whats.Activation)
 
+-- newcatch: the catch object of the body's handler is made and pushed
 abbrev pub pushes_catch : Setting → (body handler : ℕ) → Frame → Run Act
 pushes_catch p b e f = pushes 0 f (scope_object p (layout_of p.linked (parts.Catch b e)).0 whats.Catch)
 
@@ -42,5 +44,6 @@ makes_object p args = do
   set_all p o es
   done (Obj o)
 
+-- newobject: so many pairs of a name and a value are taken, and the object with these properties is pushed
 abbrev pub pushes_object : Setting → (pairs : ℕ) → Frame → Run Act
 pushes_object p pairs f = pushes (2 * pairs) f (makes_object p (arguments (2 * pairs) f))

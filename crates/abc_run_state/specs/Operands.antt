@@ -8,5 +8,6 @@ use Rattle.abc_frames.specs.Frame.{Frame}
 abbrev pub operand_at : ℕ → Frame → Value
 operand_at n f = get_or f.stack n Undefined
 
+-- local n of a frame
 abbrev pub local_at : ℕ → Frame → Value
 local_at n f = get_or f.locals n Undefined

@@ -7,13 +7,16 @@ use Rattle.abc_run_state.specs.declared.state.State.{State}
 use Rattle.abc_meaning.specs.Setting.{Setting}
 use Rattle.abc_meaning.specs.World.{World}
 
+-- the formulas of the host, and the bytes that were written
 pub record Outer : Type 0 where
   pub formulas : List Formula
   pub wrote : List ℕ
 
+-- the file with the formulas: what is run, in the words of the meaning
 abbrev pub setting : LinkedFile → Outer → Setting
 setting l out = record { linked = l; formulas = out.formulas }
 
+-- the world of a state, in the words of the meaning
 abbrev pub world : State → Outer → World
 world s out = record { heap = s.arena; started = s.started; wrote = out.wrote }
 

@@ -13,18 +13,23 @@ use Rattle.abc_meaning.specs.Simple.{switched}
 use Rattle.abc_run_state.specs.Operands.{local_at, operand_at}
 use Rattle.abc_run_state.specs.Settling.{pushes}
 
+-- the top operand is converted
 abbrev pub converts_top : Setting → Conversion → Frame → Run Act
 converts_top p to f = pushes 1 f (converts p to (operand_at 0 f))
 
+-- the opcode computes of the top operand
 abbrev pub computes_top : ℕ → Frame → Run Act
 computes_top op f = pushes 1 f (computes_one op (operand_at 0 f))
 
+-- the opcode computes of the top two operands, of which the lower is the left
 abbrev pub computes_both : Setting → ℕ → Frame → Run Act
 computes_both p op f = pushes 2 f (computes_two p op (operand_at 1 f) (operand_at 0 f))
 
+-- the opcode compares the top two operands, of which the lower is the left
 abbrev pub compares_both : Setting → ℕ → Frame → Run Bool
 compares_both p op f = compares p op (operand_at 1 f) (operand_at 0 f)
 
+-- the opcode compares the top two operands, and the answer is pushed in their place
 abbrev pub pushes_test : Setting → ℕ → Frame → Run Act
 pushes_test p op f = pushes 2 f (compares_both p op f >>= λ b. done (Truth b))
 
@@ -34,9 +39,11 @@ counts_local op n f = computes_one op (local_at n f) >>= λ v. goes (next (with_
 
 -- ---- branches
 
+-- the top n operands are taken, and the frame goes on at the target where m answers true, else at the next instruction
 abbrev pub branches_on : ℕ → (target : ℕ) → Frame → Run Bool → Run Act
 branches_on n target f m = m >>= λ b. goes (if b then jumps target (dropped n f) else next (dropped n f))
 
+-- the opposite of what m answers
 abbrev pub opposite : Run Bool → Run Bool
 opposite m = m >>= λ b. done (not b)
 
@@ -46,11 +53,14 @@ switches_on default cases f = switched (default ∷ cases) (operand_at 0 f) >>= 
 
 -- ---- a type that is named
 
+-- coerce: the top operand is coerced to the type of the name
 abbrev pub coerces_named : Setting → ℕ → Frame → Run Act
 coerces_named p name f = pushes 1 f (some (type_of p.linked name) >>= λ t. coerces p t (operand_at 0 f))
 
+-- astype: the top operand stays where it is of the type of the name, and else becomes null
 abbrev pub keeps_named : Setting → ℕ → Frame → Run Act
 keeps_named p name f = pushes 1 f (some (type_of p.linked name) >>= kept_as p (operand_at 0 f))
 
+-- istype: whether the top operand is of the type of the name
 abbrev pub tests_named : Setting → ℕ → Frame → Run Act
 tests_named p name f = pushes 1 f (some (type_of p.linked name) >>= tested_as p (operand_at 0 f))

@@ -11,10 +11,12 @@ use Rattle.abc_meaning.specs.Calling.{Came}
 use Rattle.abc_meaning.specs.World.{Run, done, ◌>>=◌}
 use Rattle.abc_meaning.specs.At.{Act, Goes, Top, dropping, goes, pushed, pushing}
 
+-- how many operands an instruction takes
 abbrev pub taken_by : How → ℕ
 taken_by (Push n) = n
 taken_by (Drop n) = n
 
+-- how many values it pushes in their place: one, or none
 abbrev pub given_by : How → ℕ
 given_by (Push n) = 1
 given_by (Drop n) = 0

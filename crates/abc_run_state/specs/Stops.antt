@@ -36,6 +36,7 @@ IsOpenWhy (Faults fault) = Unit {0}
 IsOpenWhy (Fills limit) = Unit {0}
 IsOpenWhy Sticks = ⊥
 
+-- the outcome of a part of a step that isn't stuck
 abbrev pub IsOpen : {X : Type 0} → Outcome X → Type 0
 IsOpen (Went w x) = Unit {0}
 IsOpen (Stopped w why) = IsOpenWhy why

@@ -87,6 +87,7 @@ left p (lefts.Returns v) w q = Gives w (bared q) v
 left p (lefts.Traces count how) w q = traced p count how w q
 left p (lefts.Asks n count how) w q = asked p n count how w q
 
+-- what a step makes of the frames, by what code answers: it goes on, leaves something to be done, or stops
 abbrev pub answered : Setting → Result Left Stop → World → Frames → Turned
 answered p (Ok l) w q = left p l w q
 answered p (Err e) w q = Halts w (bared q) (why e)
@@ -98,6 +99,7 @@ went (Err e) w q = Halts w (bared q) (why e)
 
 -- ---- the code of an instruction does what its act says
 
+-- code that goes on or stops does the act: from the old state, its result and the new state are what the act makes of that
 abbrev pub Runs : LinkedFile → Outer → Run Act → State → Result Unit Stop → State → Type 0
 Runs l out act old result new = turned (setting l out) old.frames (act (world old out)) ≡ went result (world new out) new.frames
 

@@ -23,6 +23,7 @@ abbrev pub act_in : Setting → Frame → Instr → Option Routine → Run Act
 act_in p f i None = stuck
 act_in p f i (Some r) = does_row p r f i (row_at (opcode i))
 
+-- the act of an instruction in a frame, by the table of acts
 abbrev pub act_here : Setting → Frame → Instr → Run Act
 act_here p f i = act_in p f i (routine_of p f.method)
 

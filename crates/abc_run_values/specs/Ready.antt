@@ -12,6 +12,7 @@ use Rattle.abc_file_types.specs.declared.code.Instr.{Instr}
 use Rattle.abc_run_values.specs.Here.{act_here}
 use Rattle.abc_run_values.specs.Spelled.{IsSpelled}
 
+-- the code of instruction i can run in this state
 pub record CanRun (l : LinkedFile) (out : Outer) (s : State) (i : Instr) : Type 0 where
   pub set : IsSet l s
   pub live : 0 < length s.frames.living

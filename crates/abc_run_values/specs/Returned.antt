@@ -13,6 +13,7 @@ use Rattle.abc_run_state.specs.declared.state.Left.TheVariants as lefts
 use Rattle.abc_run_state.specs.declared.state.State.{State}
 use Rattle.abc_run_state.specs.declared.state.Stop.{Stop}
 
+-- the frame returns, or the step stops
 abbrev pub IsReturned : Result Left Stop → Type 0
 IsReturned (Ok lefts.Goes) = ⊥
 IsReturned (Ok (lefts.Returns v)) = Unit {0}
