@@ -12,6 +12,7 @@ use Rattle.abc_file_types.specs.declared.tables.Abc.{Abc}
 use Rattle.abc_file_types.specs.Files.{file_bytes}
 use Rattle.abc_file_types.specs.Part.{limit}
 use Rattle.abc_text_lines.specs.declared.reason.AsmReason.TheVariants as reasons
+use Rattle.abc_replay.specs.Prefaces.{TakesLog}
 use Rattle.abc_tidy_entries.specs.Rules.{IsFirstBroken as IsFirstUntidy, IsTidied}
 use Rattle.abc_tidy_entries.specs.declared.error.TidyRule.{TidyRule}
 use Rattle.abc_verify.specs.Verified.{IsVerifiedOf}
@@ -85,10 +86,10 @@ reads_input (commands.Calls options) = true
 reads_input (commands.Log options) = true
 reads_input commands.Replay = true
 
--- How much of its input a command takes: at most one byte more than the greatest file has, or the greatest text. `replay` goes on behind its file, as far as the log agrees.
+-- How much of its input a command takes: at most one byte more than the greatest file has, or the greatest text; `replay` 73 more, but for the lines of a log behind a verified file.
 abbrev pub TakesFor : Command → Option (List ℕ) → Option (List ℕ) → Type 0
 TakesFor commands.Asm old new = TakesAtMost old new (text_limit + 1)
-TakesFor commands.Replay old new = Unit {0}
+TakesFor commands.Replay old new = TakesLog old new
 TakesFor command old new = TakesAtMost old new (limit + 1)
 
 -- ---- words outside the grammar

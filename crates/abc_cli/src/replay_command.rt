@@ -4,6 +4,7 @@ ghost use Rattle.abc_base.specs.Sinks.{WritesAll};
 ghost use Rattle.abc_cli_answers.specs.Answers.{On, told};
 ghost use Rattle.abc_cli_answers.specs.End.{Ends, GivesBytes, GivesLine, UsesUp, stream};
 ghost use Rattle.abc_cli.specs.Logs.{Replay, replayed_line, unreplayed_answer, unreplayed_text};
+ghost use Rattle.abc_replay.specs.Prefaces.{TakesLog};
 ghost use Rattle.abc_replay.specs.declared.error.ReplayError.{ReplayError};
 
 use abc_base::{Failed, Host, Sink, Source, Status, write_all};
@@ -89,6 +90,7 @@ pub fn replay<S: Source, K: Sink, E: Sink, H: Host>(
 ) -> Status
     ensures end { Ends (On (Replay (H.formulas host.now))) (stream S.left S.faults source.old source.new) (stream K.written K.faults out.old out.new) (stream E.written E.faults err.old err.new) result }
     ensures used_up { UsesUp (stream S.left S.faults source.old source.new) result }
+    ensures taken { TakesLog (S.left source.old) (S.left source.new) }
 {
     match abc_replay::replay(alloc, source, host) {
         Ok(steps) => give_replayed(steps, out, err),

@@ -9,6 +9,7 @@ pub mod Lined
 pub mod Noting
 mod Walks
 pub mod Taken
+pub mod Takings
 pub mod Following
 pub mod Parting
 pub mod Judging

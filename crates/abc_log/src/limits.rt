@@ -2,6 +2,7 @@ ghost use Rattle.std.specs.Prelude.{◌≡◌, ◌≢◌, ◌<◌, ◌≤◌, �
 ghost use Rattle.std.specs.Io.KnownBytes.{Consumes};
 ghost use Rattle.std.specs.List.{list_all};
 ghost use Rattle.abc_base.specs.Faults.{Rose};
+ghost use Rattle.abc_base.specs.Taking.{TakesAtMost};
 ghost use Rattle.abc_heap_store.specs.declared.records.Limits.{Limits};
 ghost use Rattle.abc_log.specs.Lines.{AreLimits, limits_line, limits_text};
 ghost use Rattle.abc_log.specs.Limits.{HasNoLimits, HasNoLine, is_no_feed};
@@ -60,6 +61,7 @@ fn read_line<S: Source>(source: &mut S, line: &mut [u8]) -> Result<usize, Limits
     ensures line { IfOk result (λ n. Consumes (S.left source.old) (S.left source.new) (take n line.new ++ 10 ∷ [])) }
     ensures one { IfOk result (λ n. list_all is_no_feed (take n line.new) ≡ true) }
     ensures wrong { result ≡ Err LimitsError.Wrong → IfSome (S.left source.old) (HasNoLine (length line.old)) }
+    ensures taken { TakesAtMost (S.left source.old) (S.left source.new) (length line.old) }
     ensures later { S.faults source.old ≤ S.faults source.new }
     ensures cause { result ≡ Err LimitsError.ReadFault → Rose (S.faults source.old) (S.faults source.new) }
     ensures same { S.name source.new ≡ S.name source.old }
@@ -75,13 +77,14 @@ fn read_line<S: Source>(source: &mut S, line: &mut [u8]) -> Result<usize, Limits
 }
 
 /// Reads the line behind the file. `Wrong` comes exactly where the input doesn't begin with such a line, unless a read failed before;
-/// `ReadFault` only where the source's count of faults rose.
+/// `ReadFault` only where the source's count of faults rose. Whatever is answered, at most 64 bytes are taken.
 pub fn read_limits<S: Source>(source: &mut S) -> Result<LimitsLine, LimitsError>
     ensures line { IfOk result (λ x. Consumes (S.left source.old) (S.left source.new) (limits_line x.fuel x.limits)) }
     ensures limits { IfOk result (λ x. AreLimits x.fuel x.limits) }
     ensures long { IfOk result (λ x. x.length ≡ length (limits_line x.fuel x.limits)) }
     ensures few { IfOk result (λ x. x.length ≤ 64) }
     ensures wrong { result ≡ Err LimitsError.Wrong → IfSome (S.left source.old) HasNoLimits }
+    ensures taken { TakesAtMost (S.left source.old) (S.left source.new) 64 }
     ensures later { S.faults source.old ≤ S.faults source.new }
     ensures cause { result ≡ Err LimitsError.ReadFault → Rose (S.faults source.old) (S.faults source.new) }
     ensures same { S.name source.new ≡ S.name source.old }

@@ -1,7 +1,7 @@
 ghost use Rattle.std.specs.Prelude.{◌≡◌, ◌⊎◌, ◌<◌, ◌≤◌, Err, IfOk, length};
 ghost use Rattle.std.specs.Io.KnownBytes.{Consumes, IsAtEnd};
 ghost use Rattle.abc_base.specs.Faults.{Rose};
-ghost use Rattle.abc_base.specs.Taking.{Moves};
+ghost use Rattle.abc_base.specs.Taking.{Moves, TakesAtMost};
 ghost use Rattle.abc_log.specs.declared.log_part.PartError.{PartError};
 ghost use Rattle.abc_log.specs.declared.log_part.PartError.TheVariants as errors;
 
@@ -46,12 +46,13 @@ fn read_more<S: Source>(source: &mut S, room: usize, bytes: &mut Vec<u8>) -> Res
     Ok(count > 0)
 }
 
-/// Holds the next bytes of the input, at most so many, and fewer only where it has no more. Room is made as bytes come. `ReadFault`
-/// comes only where the source's count of faults rose.
+/// Holds the next bytes of the input, at most so many, and fewer only where it has no more; whatever is answered, no more are taken.
+/// Room is made as bytes come. `ReadFault` comes only where the source's count of faults rose.
 pub fn read_part<S: Source>(alloc: Global, source: &mut S, most: u32) -> Result<Vec<u8>, PartError>
     ensures bytes { IfOk result (λ bytes. Consumes (S.left source.old) (S.left source.new) bytes.items) }
     ensures few { IfOk result (λ bytes. length bytes.items ≤ most) }
     ensures end { IfOk result (λ bytes. (length bytes.items ≡ most) ⊎ IsAtEnd (S.left source.new)) }
+    ensures taken { TakesAtMost (S.left source.old) (S.left source.new) most }
     ensures later { S.faults source.old ≤ S.faults source.new }
     ensures cause { result ≡ Err PartError.ReadFault → Rose (S.faults source.old) (S.faults source.new) }
 {

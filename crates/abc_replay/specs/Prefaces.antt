@@ -5,6 +5,7 @@ use Rattle.std.specs.declared.option.Option.{Option}
 use Rattle.std.specs.declared.result.Result.{Result}
 use Rattle.abc_base.specs.declared.formula.Formula.{Formula}
 use Rattle.abc_base.specs.Hosts.{AreFormulas}
+use Rattle.abc_base.specs.Taking.{TakesAtMost}
 use Rattle.abc_file.specs.Reading.{IsUsedUp, OfInput}
 use Rattle.abc_log.specs.declared.errors.HeadError.{HeadError}
 use Rattle.abc_log.specs.declared.errors.HeadError.TheVariants as heads
@@ -59,6 +60,12 @@ pub record HasPreface (old new : Option (List ℕ)) (l : LinkedFile) (line : Lim
   pub limits : AreLimits line.fuel line.limits
   pub taken : Consumes mid new (limits_line line.fuel line.limits)
   pub begins : place ≡ file_place + length bytes + length (limits_line line.fuel line.limits)
+
+-- What is taken of an input, whatever is answered: the line before the file, at most one byte more than the greatest file has, and the line of limits, 2^24 + 74 bytes
+-- at most; or more, but only where those are a verified file with its lines, behind which the log begins.
+pub data TakesLog (old new : Option (List ℕ)) : Type 0 where
+  before : TakesAtMost old new (2 ^ 24 + 74) → TakesLog old new
+  behind : (l : LinkedFile) (line : LimitsLine) (place : ℕ) (mid : Option (List ℕ)) → HasPreface old mid l line place → TakesLog old new
 
 -- what is answered of any input that has this before its log: how many steps that has, and then the input is used up, or why it is refused
 pub record AnswersLog (formulas : List Formula) (left : Option (List ℕ)) (l : LinkedFile) (line : LimitsLine) (place : ℕ) (new : Option (List ℕ)) (result : Result ℕ ReplayError) : Type 0 where

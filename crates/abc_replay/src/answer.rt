@@ -5,7 +5,7 @@ ghost use Rattle.abc_log.specs.declared.compare.Verdict.TheVariants as verdicts;
 ghost use Rattle.abc_file.specs.Reading.{IsUsedUp, OfInput};
 ghost use Rattle.abc_log.specs.Checks.{IsFaultOf};
 ghost use Rattle.abc_log.specs.declared.check.LogFault.{LogFault};
-ghost use Rattle.abc_replay.specs.Prefaces.{AnswersLog, error_of_log};
+ghost use Rattle.abc_replay.specs.Prefaces.{AnswersLog, TakesLog, error_of_log};
 ghost use Rattle.abc_replay.specs.Replays.{IsRefusedBy, IsReplayed};
 ghost use Rattle.abc_replay.specs.declared.error.ReplayError.{ReplayError};
 
@@ -104,6 +104,7 @@ pub fn replay<S: Source, H: Host>(
     ensures replayed { IfOk result (λ n. OfInput (S.left source.old) (λ input. IsReplayed (H.formulas host.now) input n)) }
     ensures end { IfOk result (λ _. IsUsedUp (S.left source.old) (S.left source.new)) }
     ensures refused { IfErr result (λ e. OfInput (S.left source.old) (λ input. IsRefusedBy (H.formulas host.now) input e)) }
+    ensures taken { TakesLog (S.left source.old) (S.left source.new) }
     ensures later { S.faults source.old ≤ S.faults source.new }
     ensures cause { result ≡ Err ReplayError.ReadFault → Rose (S.faults source.old) (S.faults source.new) }
 {

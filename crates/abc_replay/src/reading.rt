@@ -1,6 +1,7 @@
 ghost use Rattle.std.specs.Prelude.{◌≡◌, ◌≤◌, ◌<◌, ◌+◌, ◌^◌, Err, Ok, IfErr, IfOk, length};
 ghost use Rattle.std.specs.Io.KnownBytes.{Consumes};
 ghost use Rattle.abc_base.specs.Faults.{Rose};
+ghost use Rattle.abc_base.specs.Taking.{TakesAtMost};
 ghost use Rattle.abc_log.specs.Lines.{AreLimits, limits_line};
 ghost use Rattle.abc_replay.specs.Prefaces.{HasFront, HasPreface, IsNoLine, IsVerifiedIn, RefusesAny, error_of_log};
 ghost use Rattle.abc_replay.specs.declared.error.ReplayError.{ReplayError};
@@ -58,6 +59,7 @@ fn read_line<S: Source>(source: &mut S, place: u64) -> Result<LimitsLine, Replay
     ensures long { IfOk result (λ x. x.length ≡ length (limits_line x.fuel x.limits)) }
     ensures few { IfOk result (λ x. x.length ≤ 64) }
     ensures refused { IfErr result (IsNoLine (S.left source.old) place) }
+    ensures taken { TakesAtMost (S.left source.old) (S.left source.new) 64 }
     ensures later { S.faults source.old ≤ S.faults source.new }
     ensures cause { result ≡ Err ReplayError.ReadFault → Rose (S.faults source.old) (S.faults source.new) }
 {
@@ -80,11 +82,12 @@ fn counted(length: u32) -> u32
 }
 
 /// Reads the bytes of the file, with the line before them, which states how many there are. Of more than the greatest file has only
-/// one more is taken: by these the file is refused as it is by all of its bytes.
+/// one more is taken, whatever is stated and answered: by these the file is refused as it is by all of its bytes.
 pub fn read_file<S: Source>(alloc: Global, source: &mut S) -> Result<Vec<u8>, ReplayError>
     ensures file { IfOk result (λ bytes. HasFront (S.left source.old) (S.left source.new) bytes.items) }
     ensures few { IfOk result (λ bytes. length bytes.items ≤ 2 ^ 24 + 1) }
     ensures refused { IfErr result (RefusesAny (S.left source.old)) }
+    ensures taken { TakesAtMost (S.left source.old) (S.left source.new) (2 ^ 24 + 10) }
     ensures later { S.faults source.old ≤ S.faults source.new }
     ensures cause { result ≡ Err ReplayError.ReadFault → Rose (S.faults source.old) (S.faults source.new) }
 {
@@ -119,10 +122,11 @@ fn with_line(
 
 /// Reads what stands before the log of an input, or says why the input is none, in its order: the line before the file is wrong, the
 /// file is refused, linked or verified not, or there is no line of limits behind it. `ReadFault` comes only where the source's count
-/// of faults rose.
+/// of faults rose. At most 2^24 + 74 bytes are taken, whatever is answered.
 pub fn read_preface<S: Source>(alloc: Global, source: &mut S) -> Result<Preface, ReplayError>
     ensures preface { IfOk result (λ p. HasPreface (S.left source.old) (S.left source.new) p.verified p.line p.place) }
     ensures refused { IfErr result (RefusesAny (S.left source.old)) }
+    ensures taken { TakesAtMost (S.left source.old) (S.left source.new) (2 ^ 24 + 74) }
     ensures later { S.faults source.old ≤ S.faults source.new }
     ensures cause { result ≡ Err ReplayError.ReadFault → Rose (S.faults source.old) (S.faults source.new) }
 {

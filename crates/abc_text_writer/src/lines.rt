@@ -61,7 +61,7 @@ fn write_number(n: u32, piece: &mut [u8; LONG]) -> usize
 
 /// Writes a signed number so.
 #[inline(always)]
-fn write_signed(n: i32, piece: &mut [u8; LONG]) -> usize
+pub(crate) fn write_signed(n: i32, piece: &mut [u8; LONG]) -> usize
     ensures start { result + length (signed_decimal n) ≡ 16 }
     ensures room { 5 ≤ result }
     ensures written { drop result piece.new ≡ signed_decimal n ++ drop 16 piece.old }

@@ -8,6 +8,7 @@ ghost use Rattle.abc_text_lines.specs.Listing.{hex_of, label_of};
 ghost use Rattle.abc_varint.specs.Puts.{Puts, PutsWhole};
 
 use crate::escaping::{PIECE, hex_digit, show_at};
+use crate::lines::write_signed;
 use abc_base::NoMemory;
 use itoa::write_digits;
 
@@ -163,22 +164,7 @@ pub fn put_number(n: u32, out: &mut Vec<u8>) -> Result<(), NoMemory>
     put_digits(n, out)
 }
 
-/// Writes a signed number so that it ends at the place 16 of a piece, and tells where it begins.
-#[inline(always)]
-fn write_signed(n: i32, piece: &mut [u8; 32]) -> usize
-    ensures start { result + length (signed_decimal n) ≡ 16 }
-    ensures some { 0 < result }
-    ensures written { drop result piece.new ≡ signed_decimal n ++ drop 16 piece.old }
-{
-    let at = write_digits(n.unsigned_abs() as u64, piece, 16);
-    if n >= 0 {
-        return at;
-    }
-    piece[at - 1] = b'-';
-    at - 1
-}
-
-/// Writes a space and a signed number so.
+/// Writes a space and a signed number so that it ends at the place 16 of a piece, and tells where it begins.
 #[inline(always)]
 fn write_spaced(n: i32, piece: &mut [u8; 32]) -> usize
     ensures start { result + length (0x20 ∷ signed_decimal n) ≡ 16 }

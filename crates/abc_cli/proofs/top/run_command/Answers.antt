@@ -192,4 +192,4 @@ pub returns-in-Log-clause-taken : goal.returns-in-Log-clause-taken
 returns-in-Log-clause-taken g c = takes_as c.args.command.now (commands.Log c.in-Log.options) (g.S.Source.left c.args.source.now) (g.S.Source.left c.log.new.source) c.in-Log.is c.log.ensures.taken
 
 pub returns-in-Replay-clause-taken : goal.returns-in-Replay-clause-taken
-returns-in-Replay-clause-taken g c = takes_as c.args.command.now commands.Replay (g.S.Source.left c.args.source.now) (g.S.Source.left c.replay.new.source) c.in-Replay.is tt
+returns-in-Replay-clause-taken g c = takes_as c.args.command.now commands.Replay (g.S.Source.left c.args.source.now) (g.S.Source.left c.replay.new.source) c.in-Replay.is c.replay.ensures.taken

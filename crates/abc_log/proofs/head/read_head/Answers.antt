@@ -2,7 +2,8 @@ use Rattle.std.proofs.Common.{◌≡◌, ◌∙◌, arith, refl}
 use Rattle.std.proofs.KnownBytes.{Consumes-nil}
 use Rattle.std.proofs.lemmas.Result.{err_from_is_err_and}
 use Rattle.abc_log.specs.Lines.{hex_digits}
-use Rattle.abc_log.proofs.Standing.{behind_digits, digit_fits, digits_and, whole_head}
+use Rattle.abc_log.proofs.Standing.{behind_digits, digit_fits, digits_and, length-hex_digits, whole_head}
+use Rattle.abc_log.proofs.Takings.{takes_behind}
 use Rattle.abc_log.proofs.head.read_head.Goals as goal
 
 pub loop-place-init : goal.loop-place-init
@@ -47,3 +48,15 @@ returns-clause-head g c =
     let i = c.loop-place.invariant in
     let far : c.loop-place.place ≡ 8 = omega arith in
     whole_head c.loop-place.length (g.S.Source.left c.args.source.now) (g.S.Source.left c.loop-place.source) (g.S.Source.left c.read_feed.new.source) (rw far at i.taken) c.in_ok-read_feed.ensures.feed
+
+pub returns-in_err-digit-clause-taken : goal.returns-in_err-digit-clause-taken
+returns-in_err-digit-clause-taken g c =
+    takes_behind _ _ _ (hex_digits c.loop-place.place c.loop-place.length) 1 9 (omega (arith, length-hex_digits c.loop-place.place c.loop-place.length)) c.loop-place.invariant.taken c.in_err-digit.ensures.taken
+
+pub returns-in_err-read_feed-clause-taken : goal.returns-in_err-read_feed-clause-taken
+returns-in_err-read_feed-clause-taken g c =
+    takes_behind _ _ _ (hex_digits c.loop-place.place c.loop-place.length) 1 9 (omega (arith, length-hex_digits c.loop-place.place c.loop-place.length)) c.loop-place.invariant.taken c.in_err-read_feed.ensures.taken
+
+pub returns-clause-taken : goal.returns-clause-taken
+returns-clause-taken g c =
+    takes_behind _ _ _ (hex_digits c.loop-place.place c.loop-place.length) 1 9 (omega (arith, length-hex_digits c.loop-place.place c.loop-place.length)) c.loop-place.invariant.taken c.in_ok-read_feed.ensures.taken

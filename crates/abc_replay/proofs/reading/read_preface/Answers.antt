@@ -1,7 +1,8 @@
-use Rattle.std.proofs.Common.{Err, List, ℕ, ◌+◌, ap, arith, subst}
+use Rattle.std.proofs.Common.{Err, List, ℕ, ◌+◌, ◌^◌, ap, arith, subst}
 use Rattle.std.proofs.lemmas.Result.{err_from_is_err_and}
 use Rattle.abc_verify.specs.FileRefusing.{IsRefusedBy}
 use Rattle.abc_replay.specs.Prefaces.{IsVerifiedIn}
+use Rattle.abc_log.proofs.Takings.{takes_more, takes_then}
 use Rattle.abc_replay.proofs.Found.{file_faulty, preface_found, preface_refused}
 use Rattle.abc_replay.proofs.Fronts.{no_front, whole_front}
 use Rattle.abc_replay.proofs.reading.read_preface.Goals as goal
@@ -29,3 +30,12 @@ returns-clause-refused g c =
     let l = c.in_ok-verified.verified in
     let v = subst (λ (b : List ℕ). IsVerifiedIn b l) c.deref.ensures.value c.in_ok-verified.ensures.ok in
     preface_refused (g.S.Source.left c.args.source.now) (g.S.Source.left c.read_file.new.source) (g.S.Source.left c.read_line-line.new.source) c.in_ok-bytes.bytes.items l (9 + c.len.result) c.with_line.result (whole_front (g.S.Source.left c.args.source.now) (g.S.Source.left c.read_file.new.source) c.in_ok-bytes.bytes.items c.in_ok-bytes.ensures.file v.spells.1) v (omega (arith, c.len.ensures)) c.read_line-line.result c.read_line-line.ensures.refused c.with_line.ensures.ok c.with_line.ensures.err
+
+pub returns-in_err-bytes-clause-taken : goal.returns-in_err-bytes-clause-taken
+returns-in_err-bytes-clause-taken g c = takes_more _ _ (2 ^ 24 + 10) (2 ^ 24 + 74) (omega arith) c.in_err-bytes.ensures.taken
+
+pub returns-in_err-verified-clause-taken : goal.returns-in_err-verified-clause-taken
+returns-in_err-verified-clause-taken g c = takes_more _ _ (2 ^ 24 + 10) (2 ^ 24 + 74) (omega arith) c.in_ok-bytes.ensures.taken
+
+pub returns-clause-taken : goal.returns-clause-taken
+returns-clause-taken g c = takes_then _ _ _ (2 ^ 24 + 10) 64 (2 ^ 24 + 74) (omega arith) c.in_ok-bytes.ensures.taken c.read_line-line.ensures.taken
