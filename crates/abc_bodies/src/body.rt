@@ -1,5 +1,5 @@
 ghost use Rattle.std.specs.Prelude.{◌≡◌, ◌≤◌, ◌<◌, ◌+◌, ◌^◌, None, Some, Err, false, IfOk, List, ℕ, length, slice_get};
-ghost use Rattle.abc_bodies.specs.Reading.{IsFlagged, free_method, free_body, with_starts};
+ghost use Rattle.abc_bodies.specs.Reading.{IsFlagged, is_free, free_method, free_body, with_starts};
 ghost use Rattle.abc_file_types.specs.Bodies.{body, body_with, IsReadyBody};
 ghost use Rattle.abc_varint.specs.Reads.{Reads, ReadsPart};
 
@@ -10,6 +10,16 @@ use abc_instr::{Reading, read_code_within};
 use abc_traits::TraitCodec;
 use abc_varint::{ReadError, Window, read_counted, read_index_below, read_u30};
 use std::alloc::Global;
+
+/// Whether the method's flag is down.
+fn is_down(flags: &Table<bool>, method: u32) -> bool
+    ensures { result ≡ is_free flags.now method }
+{
+    match flags.fetch(method as usize) {
+        Some(up) => !up,
+        None => false,
+    }
+}
 
 /// A method that has no body yet: its flag is down.
 #[tactic(auto, unfolding(crate::specs::Reading::free_method))]
@@ -24,13 +34,13 @@ pub fn read_method<S: Source>(
 {
     let place = w.place();
     let method = read_index_below(w, source, sizes.methods)?;
-    match flags.fetch(method as usize) {
-        Some(false) => Ok(method),
-        _ => Err(ReadError::Refused {
+    if !is_down(flags, method) {
+        return Err(ReadError::Refused {
             place,
             reason: Reason::SecondBody,
-        }),
+        });
     }
+    Ok(method)
 }
 
 /// A body of a method whose flag is down.
