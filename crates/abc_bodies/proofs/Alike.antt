@@ -1,6 +1,6 @@
 -- Bodies read alike over tables whose sizes an index cannot tell apart, and with flags in place of the methods taken.
-use Rattle.std.proofs.Common.{◌≡◌, ℕ, zero, suc, ◌<◌, inl, inr, Bool, true, false, cond, List, [], ◌∷◌, ◌++◌, length, set, get_or, Ok, Err, refl, sym, ap, ◌∙◌, length-set, arith}
-use Rattle.std.specs.Prelude.{nat_eq, nat_lt, not, replicate, ◌||◌}
+use Rattle.std.proofs.Common.{◌≡◌, ℕ, zero, suc, ◌<◌, inl, inr, Bool, true, false, cond, List, [], ◌∷◌, ◌++◌, length, set, get_or, Ok, Err, refl, sym, ap, subst, ◌∙◌, length-set, arith}
+use Rattle.std.specs.Prelude.{IfOk, nat_eq, nat_lt, not, replicate, ◌||◌}
 use Rattle.std.specs.List.{list_any}
 use Rattle.std.proofs.lemmas.Bool.{cases_eq, ltb-true}
 use Rattle.std.proofs.lemmas.Bool.Decides.{nat_tests}
@@ -11,14 +11,17 @@ use Rattle.std.proofs.lemmas.Option.{unwrap_or-slice_get}
 use Rattle.abc_file_types.specs.declared.reason.Reason.{Reason}
 use Rattle.abc_file_types.specs.Lists.{chain}
 use Rattle.abc_file_types.specs.Numbers.{index_below, u30}
-use Rattle.abc_file_types.specs.Part.{At, Part, Refusal, checked}
+use Rattle.abc_file_types.specs.Part.{At, Part, Refusal, checked, image, ◌>>=◌}
+use Rattle.std.specs.declared.result.Result.{Result}
 use Rattle.abc_file_types.proofs.Exact.{bind_ok, ok_is}
+use Rattle.abc_file_types.specs.declared.code.Body.{Body}
 use Rattle.abc_file_types.specs.declared.tables.Sizes.{Sizes}
 use Rattle.abc_file_types.specs.Bodies.{body, body_list, body_method, body_with, handler, methods_of}
 use Rattle.abc_file_types.specs.Sizes.{capped}
 use Rattle.abc_traits.proofs.Alike.{Alike, alike_refl, alike_trans, checked-alike, counted-alike, image-alike, then-alike}
 use Rattle.abc_traits.proofs.Capped.{index_below-capped, pool_index-capped, trait_info-capped}
-use Rattle.abc_bodies.specs.Reading.{free_body, free_method}
+use Rattle.abc_bodies.specs.Places.{ArePlaces, KeepPlaces}
+use Rattle.abc_bodies.specs.Reading.{IsFlagged, free_body, free_method, keeping}
 
 -- ---- sizes
 
@@ -56,10 +59,6 @@ unfolding body_list
 body_list-capped v = image-alike _ _ _ (then-alike _ _ _ _ (alike_refl u30) (λ n. chain-alike n _ _ [] (λ before. body-capped v (methods_of before))))
 
 -- ---- flags
-
--- the flag of each method is up where the method is one of these
-pub record IsFlagged (flags : List Bool) (taken : List ℕ) : Type 0 where
-  pub each : (m : ℕ) → m < length flags → get_or flags m true ≡ list_any (nat_eq m) taken
 
 passed : {A : Type 0} (b : Bool) (x y : A × At) (e : Refusal) → cond b (Ok x) (Err e) ≡ Ok y → (b ≡ true) × (x ≡ y)
 passed true x y e h = (refl, ok_is x y h)
@@ -105,3 +104,16 @@ flags_up flags taken n lt flagged = record { each = up } where
     | inl e ↦ let yes : nat_eq m n ≡ true = grind (arith, nat_tests) in get_or-set_at flags n m true true e lt ∙ sym (one_more m n taken ∙ rw yes (or_true (list_any (nat_eq m) taken)))
     | inr d ↦ let no : nat_eq m n ≡ false = grind (arith, nat_tests) in get_or-set_other flags n m true true d ∙ flagged.each m (omega (arith, h, length-set flags n true)) ∙ sym (one_more m n taken ∙ rw no (or_false (list_any (nat_eq m) taken)))
   ]
+
+-- ---- the places themselves are kept
+
+whole : {A B : Type 0} (r : Result ((A × B) × At) Refusal) → (r >>= λ x. Ok ((x.0.0, x.0.1), x.1)) ≡ r
+whole (Ok x) = refl
+whole (Err e) = refl
+
+pub kept-alike : {A : Type 0} (p : Part (A × List (List ℕ))) → Alike (image (keeping (λ places. places)) p) p
+kept-alike p = record { same = λ from. whole (p.reads from) }
+
+pub places_kept : {E : Type 0} (r : Result (List (List ℕ)) E) (bodies : List Body) → IfOk r (λ x. KeepPlaces (λ (places : List (List ℕ)). places) bodies x) → IfOk r (λ x. ArePlaces bodies x)
+places_kept (Ok x) bodies p = subst (ArePlaces bodies) (sym p.is) p.each
+places_kept (Err e) bodies p = tt

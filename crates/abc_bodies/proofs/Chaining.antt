@@ -7,15 +7,15 @@ use Rattle.abc_file_types.specs.Lists.{chain}
 use Rattle.abc_varint.specs.declared.error.ReadError.{ReadError}
 use Rattle.abc_varint.specs.declared.error.ReadError.TheVariants as errors
 use Rattle.abc_varint.specs.View.{View}
-use Rattle.abc_varint.specs.Reads.{Reads, Fails, IsInput, known, stand}
+use Rattle.abc_varint.specs.Reads.{Reads, Fails, Input, IsInput, known, stand}
 
 -- With the items `before` read so far and `more` to come, what is read in all.
 pub record Chaining {A : Type 0} (p : List A → Part A) (total more : ℕ) (before : List A) (w0 : View) (s0 : Option (List ℕ)) (w : View) (s : Option (List ℕ)) : Type 0 where
   pub fresh : w.kept ≡ None
   pub forth : w0.place ≤ w.place
   pub ends_at : w.end ≡ w0.end
-  pub told : (input : List ℕ) → IsInput w s input → IsInput w0 s0 input
-  pub same : (input : List ℕ) → IsInput w s input → (chain more p before).reads (stand w input) ≡ (chain total p []).reads (stand w0 input)
+  pub told : (input : Input) → IsInput w s input → IsInput w0 s0 input
+  pub same : (input : Input) → IsInput w s input → (chain more p before).reads (stand w input) ≡ (chain total p []).reads (stand w0 input)
 
 abbrev beside : {A : Type 0} → A → List A × At → Result ((A × List A) × At) Refusal
 beside x y = Ok ((x, y.0), y.1)

@@ -18,8 +18,8 @@ use Rattle.abc_varint.specs.Reads.{Reads}
 use Rattle.abc_traits.proofs.Alike.{Alike, alike_sym, alike_trans, image-alike, image_image}
 use Rattle.abc_traits.proofs.Filling.{reads_alike, reads_image}
 use Rattle.abc_bodies.specs.Places.{ArePlaces, KeepPlaces}
-use Rattle.abc_bodies.specs.Reading.{free_body, halves, keeping}
-use Rattle.abc_bodies.proofs.Alike.{IsFlagged, body_list-capped, flags_up, free_body-alike, no_flags}
+use Rattle.abc_bodies.specs.Reading.{IsFlagged, free_body, halves, keeping}
+use Rattle.abc_bodies.proofs.Alike.{body_list-capped, flags_up, free_body-alike, no_flags}
 use Rattle.abc_bodies.proofs.Chaining.{Chaining, chain_begins, chain_done, chain_fails, chain_goes_on}
 
 -- ---- each body beside its starts

@@ -16,9 +16,9 @@ use Rattle.abc_file_types.specs.Classes.{sizes_of}
 use Rattle.abc_varint.specs.declared.error.ReadError.{ReadError}
 use Rattle.abc_varint.specs.Passes.{Passes}
 use Rattle.abc_varint.specs.View.{View}
-use Rattle.abc_varint.specs.Reads.{Reads, Fails, IsInput, known, stand}
-use Rattle.abc_bodies.specs.Reading.{free_body}
-use Rattle.abc_bodies.proofs.Alike.{IsFlagged, flags_up, free_body-alike, no_flags}
+use Rattle.abc_varint.specs.Reads.{Reads, Fails, Input, IsInput, known, stand}
+use Rattle.abc_bodies.specs.Reading.{IsFlagged, free_body}
+use Rattle.abc_bodies.proofs.Alike.{flags_up, free_body-alike, no_flags}
 use Rattle.abc_bodies.proofs.Chaining.{chain_begins, chain_ends, chain_step, chain_stops}
 use Rattle.abc_bodies.proofs.Collecting.{next_body}
 
@@ -37,9 +37,9 @@ pub record PassesBodies (entry : Body × List ℕ → List ℕ) (v : Sizes) (tot
   pub fresh : w.kept ≡ None
   pub forth : w0.place ≤ w.place
   pub ends_at : w.end ≡ w0.end
-  pub told : (input : List ℕ) → IsInput w s input → IsInput w0 s0 input
+  pub told : (input : Input) → IsInput w s input → IsInput w0 s0 input
   pub count : length flags ≡ v.methods
-  pub same : (input : List ℕ) → IsInput w s input → Middle entry v total more flags (stand w0 input) (stand w input) old new
+  pub same : (input : Input) → IsInput w s input → Middle entry v total more flags (stand w0 input) (stand w input) old new
 
 module _ (entry : Body × List ℕ → List ℕ) (v : Sizes) (total : ℕ) (w0 : View) (s0 : Option (List ℕ)) (old : List ℕ) where
   pub begins : (flags : List Bool) → flags ≡ replicate v.methods false → w0.kept ≡ None → PassesBodies entry v total (total - 0) flags old old w0 s0 w0 s0

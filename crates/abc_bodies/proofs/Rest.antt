@@ -15,7 +15,7 @@ use Rattle.abc_file_types.specs.Traits.{trait_bytes, trait_info}
 use Rattle.abc_varint.specs.declared.error.ReadError.{ReadError}
 use Rattle.abc_varint.specs.declared.error.ReadError.TheVariants as errors
 use Rattle.abc_varint.specs.Passes.{Passes, nothing}
-use Rattle.abc_varint.specs.Reads.{Fails, IsInput, stand}
+use Rattle.abc_varint.specs.Reads.{Fails, Input, IsInput, stand}
 use Rattle.abc_varint.specs.View.{View}
 use Rattle.abc_instr.specs.Marks.{moved_in}
 use Rattle.abc_bodies.specs.Moved.{moved_bytes, moved_handler}
@@ -63,14 +63,14 @@ read_moved v c marks from after hs same e =
     mapped (map (move os ms)) ((counted (handler v os)).reads from) hs after (sym (handlers_move os ms v from) ∙ h)
 
 module _ (v : Sizes) (marks : ℕ → Option ℕ) (old b1 : List ℕ) (w : View) (s : Option (List ℕ)) (w1 : View) (s1 : Option (List ℕ)) (p : Passes code code_of moved_in w s w1 s1 old b1 (Ok marks)) where
-  pub handlers_fail : (e : ReadError) (input : List ℕ) → IsInput w1 s1 input × Fails e ((counted (moved_handler v marks)).reads (stand w1 input)) → IsInput w s input × Fails e ((rest v).reads (stand w input))
+  pub handlers_fail : (e : ReadError) (input : Input) → IsInput w1 s1 input × Fails e ((counted (moved_handler v marks)).reads (stand w1 input)) → IsInput w s input × Fails e ((rest v).reads (stand w input))
   handlers_fail e input f =
       let a = p.4 input f.0 in
       let x = a.1 in
       (a.0, handlers_refused e v x.value (stand w input) (stand w1 input) x.read (unmoved e v x.value marks (stand w1 input) x.tells f.1))
 
   module _ (b2 : List ℕ) (n : ℕ) (w2 : View) (s2 : Option (List ℕ)) (q : Passes (counted (moved_handler v marks)) (counted_bytes moved_bytes) length w1 s1 w2 s2 b1 b2 (Ok n)) where
-    pub traits_fail : (e : ReadError) (input : List ℕ) → IsInput w2 s2 input × Fails e ((counted (trait_info v)).reads (stand w2 input)) → IsInput w s input × Fails e ((rest v).reads (stand w input))
+    pub traits_fail : (e : ReadError) (input : Input) → IsInput w2 s2 input × Fails e ((counted (trait_info v)).reads (stand w2 input)) → IsInput w s input × Fails e ((rest v).reads (stand w input))
     traits_fail e input f =
         let b = q.4 input f.0 in
         let a = p.4 input b.0 in

@@ -1,5 +1,6 @@
 -- Bodies as they are read: methods that have one are told by flags.
-use Rattle.std.specs.Prelude.{ℕ, ◌++◌, Bool, true, not, unwrap_or, slice_get, List, map, Ok, Err}
+use Rattle.std.specs.Prelude.{◌≡◌, ◌<◌, ℕ, ◌++◌, Bool, true, not, unwrap_or, slice_get, get_or, List, length, map, nat_eq, Ok, Err}
+use Rattle.std.specs.List.{list_any}
 use Rattle.std.specs.declared.result.Result.{Result}
 use Rattle.abc_file_types.specs.declared.reason.Reason.TheVariants as reasons
 use Rattle.abc_file_types.specs.Part.{Part, both, checked, then_by}
@@ -26,6 +27,10 @@ free_method v flags = checked (is_free flags) reasons.SecondBody (index_below v.
 
 unfoldable pub free_body : Sizes → List Bool → Part (Body × List ℕ)
 free_body v flags = body_with v (free_method v flags)
+
+-- the flag of each method is up where the method is one of these
+pub record IsFlagged (flags : List Bool) (taken : List ℕ) : Type 0 where
+  pub each : (m : ℕ) → m < length flags → get_or flags m true ≡ list_any (nat_eq m) taken
 
 -- the bodies, and what is kept of the starts of each body's instructions
 abbrev pub halves : {K : Type 0} → (List (List ℕ) → K) → List (Body × List ℕ) → List Body × K

@@ -1,6 +1,6 @@
-ghost use Rattle.std.specs.Prelude.{◌≡◌, ◌≤◌, ◌<◌, ◌+◌, ◌^◌, None, Some, Err, false, IfOk, length, slice_get};
-ghost use Rattle.abc_bodies.specs.Reading.{free_method, free_body, with_starts};
-ghost use Rattle.abc_file_types.specs.Bodies.{body_with, IsReadyBody};
+ghost use Rattle.std.specs.Prelude.{◌≡◌, ◌≤◌, ◌<◌, ◌+◌, ◌^◌, None, Some, Err, false, IfOk, List, ℕ, length, slice_get};
+ghost use Rattle.abc_bodies.specs.Reading.{IsFlagged, free_method, free_body, with_starts};
+ghost use Rattle.abc_file_types.specs.Bodies.{body, body_with, IsReadyBody};
 ghost use Rattle.abc_varint.specs.Reads.{Reads, ReadsPart};
 
 use crate::handlers::read_handlers;
@@ -33,9 +33,9 @@ pub fn read_method<S: Source>(
     }
 }
 
-/// A body of a method whose flag is down. Where its instructions began is left in the reading, whose memory is used again.
+/// A body of a method whose flag is down.
 #[tactic(auto, unfolding(crate::specs::Reading::free_body, abc_file_types::specs::Bodies::body_with))]
-pub fn read_body<S: Source>(
+fn read_free_body<S: Source>(
     alloc: Global,
     w: &mut Window,
     source: &mut S,
@@ -43,7 +43,6 @@ pub fn read_body<S: Source>(
     flags: &Table<bool>,
     reading: &mut Reading,
 ) -> Result<Body, ReadError>
-    requires { w.old.end ≡ 2 ^ 25 }
     ensures value { ReadsPart S.left S.faults (free_body sizes.now flags.now) w.old source.old w.new source.new (with_starts result (reading.new).starts) }
     ensures free { IfOk result (λ b. slice_get flags.now b.method ≡ Some false) }
     ensures count { IfOk result (λ b. length (reading.new).starts ≡ length b.code + 1) }
@@ -67,4 +66,23 @@ pub fn read_body<S: Source>(
         handlers,
         traits,
     })
+}
+
+/// A body of a method whose flag is down: where the flags are up for the methods that have a body already, a body beside
+/// those. Where its instructions began is left in the reading, whose memory is used again.
+pub fn read_body<S: Source>(
+    alloc: Global,
+    w: &mut Window,
+    source: &mut S,
+    sizes: &Sizes,
+    flags: &Table<bool>,
+    reading: &mut Reading,
+) -> Result<Body, ReadError>
+    ensures defined { (taken : List ℕ) → length flags.now ≡ (sizes.now).methods → IsFlagged flags.now taken → ReadsPart S.left S.faults (body sizes.now taken) w.old source.old w.new source.new (with_starts result (reading.new).starts) }
+    ensures value { ReadsPart S.left S.faults (free_body sizes.now flags.now) w.old source.old w.new source.new (with_starts result (reading.new).starts) }
+    ensures free { IfOk result (λ b. slice_get flags.now b.method ≡ Some false) }
+    ensures count { IfOk result (λ b. length (reading.new).starts ≡ length b.code + 1) }
+    ensures ready { IfOk result IsReadyBody }
+{
+    read_free_body(alloc, w, source, sizes, flags, reading)
 }

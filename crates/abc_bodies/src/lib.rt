@@ -16,4 +16,4 @@ pub use laws::bodies_law;
 pub use pass::pass_bodies;
 pub use places::{Keeping, NoPlaces, Places};
 pub use put::put_bodies;
-pub use read::{flags_down, read_bodies};
+pub use read::{flags_down, read_bodies, read_bodies_keeping};

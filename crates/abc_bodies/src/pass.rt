@@ -39,7 +39,6 @@ fn pass_rest<S: Source>(
     scan: &mut Scan,
     out: &mut Vec<u8>,
 ) -> Result<(), ReadError>
-    requires { w.old.end ≡ 2 ^ 25 }
     ensures { PassesPart S.left S.faults (rest sizes.now) rest_bytes nothing w.old source.old w.new source.new out.old.items out.new.items result }
 {
     pass_code(alloc, w, source, scan, out)?;
@@ -59,7 +58,6 @@ fn pass_body<S: Source>(
     scan: &mut Scan,
     out: &mut Vec<u8>,
 ) -> Result<u32, ReadError>
-    requires { w.old.end ≡ 2 ^ 25 }
     ensures value { PassesPart S.left S.faults (free_body sizes.now flags.now) (λ x. body_bytes x.0) (λ x. (x.0).method) w.old source.old w.new source.new out.old.items out.new.items result }
     ensures free { IfOk result (λ m. slice_get flags.now m ≡ Some false) }
 {
@@ -83,7 +81,6 @@ fn pass_each_body<S: Source>(
     out: &mut Vec<u8>,
 ) -> Result<u32, ReadError>
     requires fresh { w.old.kept ≡ None }
-    requires end { w.old.end ≡ 2 ^ 25 }
     ensures value { PassesPart S.left S.faults (chain count (λ before. body sizes.now (methods_of before)) []) (flat_map (λ x. body_bytes x.0)) length w.old source.old w.new source.new out.old.items out.new.items result }
     ensures count { IfOk result (λ n. n ≡ count) }
 {
@@ -106,8 +103,6 @@ pub fn pass_bodies<S: Source>(
     sizes: &Sizes,
     out: &mut Vec<u8>,
 ) -> Result<(), ReadError>
-    // The window has no end.
-    requires { w.old.end ≡ 2 ^ 25 }
     ensures { PassesPart S.left S.faults (body_list sizes.now) (λ xs. counted_bytes body_bytes (map (λ x. x.0) xs)) nothing w.old source.old w.new source.new out.old.items out.new.items result }
 {
     let count = read_u30(w, source)?;

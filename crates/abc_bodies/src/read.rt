@@ -1,5 +1,5 @@
 ghost use Rattle.std.specs.Prelude.{◌≡◌, ◌≤◌, ◌<◌, ◌^◌, [], All, None, Some, Err, false, IfOk, OnErr, OnOk, length, replicate};
-ghost use Rattle.abc_bodies.specs.Places.{KeepPlaces};
+ghost use Rattle.abc_bodies.specs.Places.{ArePlaces, KeepPlaces};
 ghost use Rattle.abc_bodies.specs.Reading.{halves, keeping, with_places};
 ghost use Rattle.abc_file_types.specs.Lists.{chain};
 ghost use Rattle.abc_file_types.specs.Part.{image};
@@ -8,7 +8,7 @@ ghost use Rattle.abc_varint.specs.Answers.{Answers};
 ghost use Rattle.abc_varint.specs.Reads.{Reads, ReadsPart};
 
 use crate::body::read_body;
-use crate::places::Keeping;
+use crate::places::{Keeping, Places};
 use abc_base::{NoMemory, Source, Table};
 use abc_file_types::{Abc, Body, Sizes, sizes_of};
 use abc_instr::Reading;
@@ -35,7 +35,6 @@ fn read_each_body<S: Source, K: Keeping>(
     count: u32,
 ) -> Result<(Table<Body>, K), ReadError>
     requires fresh { w.old.kept ≡ None }
-    requires end { w.old.end ≡ 2 ^ 25 }
     ensures value { ReadsPart S.left S.faults (image (halves K.of_places) (chain count (λ before. body sizes.now (methods_of before)) [])) w.old source.old w.new source.new result }
     ensures places { IfOk result (λ x. KeepPlaces K.of_places x.0 x.1) }
     ensures ready { IfOk result (λ x. All IsReadyBody x.0) }
@@ -61,7 +60,6 @@ fn read_all<S: Source, K: Keeping>(
     source: &mut S,
     sizes: &Sizes,
 ) -> Result<(Table<Body>, K), ReadError>
-    requires { w.old.end ≡ 2 ^ 25 }
     ensures value { ReadsPart S.left S.faults (image (halves K.of_places) (body_list sizes.now)) w.old source.old w.new source.new result }
     ensures places { IfOk result (λ x. KeepPlaces K.of_places x.0 x.1) }
     ensures ready { IfOk result (λ x. All IsReadyBody x.0) }
@@ -70,24 +68,13 @@ fn read_all<S: Source, K: Keeping>(
     read_each_body(alloc, w, source, sizes, count)
 }
 
-/// Reads method bodies beside the other tables of an Abc, whose bodies they replace, and gives what is kept of where their
-/// instructions began. After any Err the Abc is as it was.
-///
-/// The bytes are refused at a number or a byte as by `read_u30` and `read_u8`, code as by `read_code`, and traits as by
-/// `read_definitions`. A body's method is refused by `Index` where there is no such method, and then by `SecondBody` where
-/// it has a body already; a place of an exception by `HandlerRange` where no instruction begins or the code ends there; its
-/// type and its name by `Index` where there is no such multiname: each at its first byte. A body's targets are tested
-/// once its code is read, before the count of its exceptions. The window does not keep `SecondBody`. `ReadFault` comes
-/// only where the source's count of faults rose, and `NoMemory` where memory ran out. No memory is reserved for bodies
-/// that have not come. What was read can be put.
-pub fn read_bodies<S: Source, K: Keeping>(
+/// Reads method bodies as `read_bodies` does, and gives what is kept of where their instructions began.
+pub fn read_bodies_keeping<S: Source, K: Keeping>(
     alloc: Global,
     w: &mut Window,
     source: &mut S,
     abc: &mut Abc,
 ) -> Result<K, ReadError>
-    // The window has no end.
-    requires { w.old.end ≡ 2 ^ 25 }
     ensures value { ReadsPart S.left S.faults (image (keeping K.of_places) (bodies abc.old)) w.old source.old w.new source.new (with_places result abc.new) }
     ensures places { IfOk result (KeepPlaces K.of_places (abc.new).bodies) }
     ensures ready { OnOk result (All IsReadyBody (abc.new).bodies) }
@@ -103,4 +90,30 @@ pub fn read_bodies<S: Source, K: Keeping>(
         }
         Err(e) => Err(e),
     }
+}
+
+/// Reads method bodies beside the other tables of an Abc, whose bodies they replace, and gives where their instructions
+/// began. After any Err the Abc is as it was.
+///
+/// The bytes are refused at a number or a byte as by `read_u30` and `read_u8`, code as by `read_code`, and traits as by
+/// `read_definitions`. A body's method is refused by `Index` where there is no such method, and then by `SecondBody` where
+/// it has a body already; a place of an exception by `HandlerRange` where no instruction begins or the code ends there; its
+/// type and its name by `Index` where there is no such multiname: each at its first byte. A body's targets are tested
+/// once its code is read, before the count of its exceptions. The window does not keep `SecondBody`. `ReadFault` comes
+/// only where the source's count of faults rose, and `NoMemory` where memory ran out. No memory is reserved for bodies
+/// that have not come. What was read can be put.
+pub fn read_bodies<S: Source>(
+    alloc: Global,
+    w: &mut Window,
+    source: &mut S,
+    abc: &mut Abc,
+) -> Result<Places, ReadError>
+    ensures value { ReadsPart S.left S.faults (bodies abc.old) w.old source.old w.new source.new (with_places result abc.new) }
+    ensures places { IfOk result (ArePlaces (abc.new).bodies) }
+    ensures ready { OnOk result (All IsReadyBody (abc.new).bodies) }
+    ensures err { OnErr result (abc.new ≡ abc.old) }
+    ensures answers { Answers (bodies abc.old) w.old (S.left source.old) w.new (S.left source.new) (with_places result abc.new) }
+{
+    let _place = w.place();
+    read_bodies_keeping::<S, Places>(alloc, w, source, abc)
 }

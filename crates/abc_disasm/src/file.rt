@@ -1,11 +1,12 @@
 //! The whole file, listed as it is read.
-ghost use Rattle.std.specs.Prelude.{◌≡◌, ◌≤◌, ◌^◌, [], Err, IfOk, IfErr, OnOk, None};
+ghost use Rattle.std.specs.Prelude.{◌≡◌, ◌≤◌, ◌+◌, ◌^◌, [], Err, IfOk, IfErr, OnOk, None};
 ghost use Rattle.abc_base.specs.Faults.{Rose};
+ghost use Rattle.abc_base.specs.Taking.{TakesAtMost};
 ghost use Rattle.abc_file.specs.Reading.{IsFaultOf, IsNew, IsUsedUp, IsWrittenOf};
 ghost use Rattle.abc_text_lines.specs.Listing.{listing};
 ghost use Rattle.abc_file_types.specs.Files.{file_read};
 ghost use Rattle.abc_varint.specs.Passes.{Passes, PassesPart, nothing};
-ghost use Rattle.abc_varint.specs.Reads.{Reads, ReadsPart};
+ghost use Rattle.abc_varint.specs.Reads.{IsInput, Reads, ReadsPart, known};
 ghost use Rattle.abc_varint.specs.declared.error.ReadError.{ReadError};
 
 use crate::listed_bodies::list_bodies;
@@ -28,7 +29,6 @@ fn list_file<S: Source>(
     source: &mut S,
     out: &mut Vec<u8>,
 ) -> Result<(), ReadError>
-    requires { w.old.end ≡ 2 ^ 25 }
     ensures { PassesPart S.left S.faults file_read (λ x. listing x.0) nothing w.old source.old w.new source.new out.old.items out.new.items result }
 {
     read_version(w, source)?;
@@ -55,6 +55,7 @@ fn list_to_end<S: Source>(
     requires bytes { out.old.items ≡ [] }
     ensures text { OnOk result (IsWrittenOf listing (S.left source.old) out.new.items) }
     ensures fault { IfErr result (λ e. IsFaultOf (S.left source.old) e) }
+    ensures input { IsInput w.old (S.left source.old) (known w.new (S.left source.new)) }
     ensures end { OnOk result (IsUsedUp (S.left source.old) (S.left source.new)) }
     ensures later { S.faults source.old ≤ S.faults source.new }
     ensures cause { result ≡ Err ReadError.ReadFault → Rose (S.faults source.old) (S.faults source.new) }
@@ -66,16 +67,20 @@ fn list_to_end<S: Source>(
 
 /// The one text of the file that the source gives up to its end, as `disassemble` puts it of what `read` reads; the lines
 /// of each body are put before the next is read, so that only one is held. It is refused as by `read`. `ReadFault` comes
-/// only where the source's count of faults rose, and `NoMemory` where memory ran out. The memory of the tables stays taken.
+/// only where the source's count of faults rose, and `NoMemory` where memory ran out. At most 2^24 + 1 bytes are taken,
+/// whatever is answered. The memory of the tables stays taken.
 pub fn listing_of<S: Source>(alloc: Global, source: &mut S) -> Result<Vec<u8>, ReadError>
     ensures text { IfOk result (λ v. IsWrittenOf listing (S.left source.old) v.items) }
     ensures fault { IfErr result (λ e. IsFaultOf (S.left source.old) e) }
+    ensures taken { TakesAtMost (S.left source.old) (S.left source.new) (2 ^ 24 + 1) }
     ensures end { OnOk result (IsUsedUp (S.left source.old) (S.left source.new)) }
     ensures later { S.faults source.old ≤ S.faults source.new }
     ensures cause { result ≡ Err ReadError.ReadFault → Rose (S.faults source.old) (S.faults source.new) }
 {
     let mut w = Window::new(alloc)?;
     let mut text = Vec::new(alloc);
-    list_to_end(alloc, &mut w, source, &mut text)?;
+    let done = list_to_end(alloc, &mut w, source, &mut text);
+    w.stays_small();
+    done?;
     Ok(text)
 }

@@ -36,7 +36,6 @@ fn list_body<S: Source>(
     abc: &Shown<'_>,
     out: &mut Vec<u8>,
 ) -> Result<u32, ReadError>
-    requires { w.old.end ≡ 2 ^ 25 }
     ensures value { PassesPart S.left S.faults (free_body sizes.now flags.now) (entry_text abc.now) (λ x. x.0.method) w.old source.old w.new source.new out.old.items out.new.items result }
     ensures free { IfOk result (λ m. slice_get flags.now m ≡ Some false) }
 {
@@ -56,7 +55,6 @@ fn list_each_body<S: Source>(
     out: &mut Vec<u8>,
 ) -> Result<u32, ReadError>
     requires fresh { w.old.kept ≡ None }
-    requires end { w.old.end ≡ 2 ^ 25 }
     ensures { PassesPart S.left S.faults (chain count (λ before. body sizes.now (methods_of before)) []) (flat_map (entry_text abc.now)) length w.old source.old w.new source.new out.old.items out.new.items result }
 {
     let mut has_body = flags_down(alloc, sizes.methods)?;
@@ -82,7 +80,6 @@ pub fn list_bodies<S: Source>(
     abc: &Shown<'_>,
     out: &mut Vec<u8>,
 ) -> Result<(), ReadError>
-    requires { w.old.end ≡ 2 ^ 25 }
     ensures { PassesPart S.left S.faults (body_list sizes.now) (flat_map (entry_text abc.now)) nothing w.old source.old w.new source.new out.old.items out.new.items result }
 {
     let count = read_u30(w, source)?;

@@ -39,11 +39,11 @@ pub record IsNew (w : View) : Type 0 where
 -- What is known now may have been the input before, and nothing of it stands ahead.
 pub record IsEnd (w : View) (s : Option (List ℕ)) (w2 : View) (s2 : Option (List ℕ)) : Type 0 where
   pub input : IsInput w s (known w2 s2)
-  pub none : drop w.place (known w2 s2) ≡ []
+  pub none : drop w.place (known w2 s2).bytes ≡ []
 
 -- the Err of a file that something follows: at its first byte, or that of a failed read
 abbrev pub IsTrailing : View → Option (List ℕ) → View → Option (List ℕ) → ReadError → Type 0
-IsTrailing w s w2 s2 (errors.Refused place reason) = (place ≡ w.place) × (reason ≡ reasons.Trailing) × IsInput w s (known w2 s2) × (drop w.place (known w2 s2) ≢ [])
+IsTrailing w s w2 s2 (errors.Refused place reason) = (place ≡ w.place) × (reason ≡ reasons.Trailing) × IsInput w s (known w2 s2) × (drop w.place (known w2 s2).bytes ≢ [])
 IsTrailing w s w2 s2 errors.ReadFault = Unit {0}
 IsTrailing w s w2 s2 errors.NoMemory = ⊥
 

@@ -1,9 +1,10 @@
-ghost use Rattle.std.specs.Prelude.{◌≡◌, ◌≤◌, ◌^◌, ◌++◌, [], Err, IfOk, IfErr, OnOk, None};
+ghost use Rattle.std.specs.Prelude.{◌≡◌, ◌≤◌, ◌+◌, ◌^◌, ◌++◌, [], Err, IfOk, IfErr, OnOk, None};
 ghost use Rattle.abc_base.specs.Faults.{Rose};
+ghost use Rattle.abc_base.specs.Taking.{TakesAtMost};
 ghost use Rattle.abc_file.specs.Reading.{IsCanonicalOf, IsFaultOf, IsNew, IsUsedUp};
 ghost use Rattle.abc_file_types.specs.Files.{file_bytes, file_read, version, version_bytes};
 ghost use Rattle.abc_varint.specs.Passes.{Passes, PassesPart, nothing};
-ghost use Rattle.abc_varint.specs.Reads.{Reads, ReadsPart};
+ghost use Rattle.abc_varint.specs.Reads.{IsInput, Reads, ReadsPart, known};
 ghost use Rattle.abc_varint.specs.declared.error.ReadError.{ReadError};
 
 use crate::reading::read_version;
@@ -38,7 +39,6 @@ fn pass_file<S: Source>(
     source: &mut S,
     out: &mut Vec<u8>,
 ) -> Result<(), ReadError>
-    requires { w.old.end ≡ 2 ^ 25 }
     ensures { PassesPart S.left S.faults file_read (λ x. file_bytes x.0) nothing w.old source.old w.new source.new out.old.items out.new.items result }
 {
     pass_version(w, source, out)?;
@@ -60,6 +60,7 @@ fn pass_to_end<S: Source>(
     requires bytes { out.old.items ≡ [] }
     ensures bytes { OnOk result (IsCanonicalOf (S.left source.old) out.new.items) }
     ensures fault { IfErr result (λ e. IsFaultOf (S.left source.old) e) }
+    ensures input { IsInput w.old (S.left source.old) (known w.new (S.left source.new)) }
     ensures end { OnOk result (IsUsedUp (S.left source.old) (S.left source.new)) }
     ensures later { S.faults source.old ≤ S.faults source.new }
     ensures cause { result ≡ Err ReadError.ReadFault → Rose (S.faults source.old) (S.faults source.new) }
@@ -71,16 +72,19 @@ fn pass_to_end<S: Source>(
 
 /// The canonical bytes of the file that the source gives up to its end, as `write` puts what `read` reads; each field is
 /// put before the next is read. It is refused as by `read`. `ReadFault` comes only where the source's count of faults
-/// rose, and `NoMemory` where memory ran out.
+/// rose, and `NoMemory` where memory ran out. At most 2^24 + 1 bytes are taken, whatever is answered.
 pub fn canonical<S: Source>(alloc: Global, source: &mut S) -> Result<Vec<u8>, ReadError>
     ensures bytes { IfOk result (λ v. IsCanonicalOf (S.left source.old) v.items) }
     ensures fault { IfErr result (λ e. IsFaultOf (S.left source.old) e) }
+    ensures taken { TakesAtMost (S.left source.old) (S.left source.new) (2 ^ 24 + 1) }
     ensures end { OnOk result (IsUsedUp (S.left source.old) (S.left source.new)) }
     ensures later { S.faults source.old ≤ S.faults source.new }
     ensures cause { result ≡ Err ReadError.ReadFault → Rose (S.faults source.old) (S.faults source.new) }
 {
     let mut w = Window::new(alloc)?;
     let mut bytes = Vec::new(alloc);
-    pass_to_end(alloc, &mut w, source, &mut bytes)?;
+    let done = pass_to_end(alloc, &mut w, source, &mut bytes);
+    w.stays_small();
+    done?;
     Ok(bytes)
 }

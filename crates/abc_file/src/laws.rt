@@ -3,12 +3,21 @@ ghost use Rattle.abc_file.specs.Narrow.{IsNarrow, narrow_file};
 ghost use Rattle.abc_file_types.specs.Canonical.{IsCanonical, IsLeast};
 ghost use Rattle.abc_file_types.specs.declared.tables.Abc.{Abc};
 ghost use Rattle.abc_file_types.specs.Bodies.{IsReadyBody};
-ghost use Rattle.abc_file_types.specs.Files.{Fits, IsFile, IsFileRead, IsDecided, file, file_bytes};
+ghost use Rattle.abc_file_types.specs.Files.{Fits, IsFile, IsFileRead, IsDecided, file, file_bytes, file_read, version};
+ghost use Rattle.abc_file_types.specs.Law.{Exact};
 
 /// Every list of bytes is spelled by exactly one file, or is bad at exactly one place for exactly one reason, and
 /// never both.
 pub fn one_reading()
     ensures { (b : List ℕ) → IsDecided b }
+{}
+
+/// What reading the version answers, or a file with the starts of its instructions or without, is what a front of the
+/// bytes spells, or their first fault.
+pub fn reading_is_exact()
+    ensures version { Exact version }
+    ensures file { Exact file }
+    ensures file_read { Exact file_read }
 {}
 
 /// What is written spells the file, no spelling is shorter, and none as short has a lesser byte in any place; no other

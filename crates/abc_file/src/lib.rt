@@ -3,17 +3,13 @@
 
 mod canon;
 mod laws;
-mod parts;
 mod reading;
 mod rest;
 mod writing;
 
 pub use abc_bodies::Places;
 pub use canon::canonical;
-pub use laws::{canonical_form, one_reading, reading_gives_the_file, widening};
-pub use parts::{
-    bodies_are_exact, definitions_are_exact, files_are_exact, numbers_are_exact, pools_are_exact,
-};
+pub use laws::{canonical_form, one_reading, reading_gives_the_file, reading_is_exact, widening};
 pub use reading::{read, read_alone, read_version};
 pub use rest::read_nothing_more;
 pub use writing::write;

@@ -1,5 +1,6 @@
-ghost use Rattle.std.specs.Prelude.{◌≡◌, ◌≤◌, ◌^◌, Ok, Err, IfOk, IfErr, OnOk, None, All, nat_eq, if◌then◌else◌};
+ghost use Rattle.std.specs.Prelude.{◌≡◌, ◌≤◌, ◌+◌, ◌^◌, Ok, Err, IfOk, IfErr, OnOk, None, All, nat_eq, if◌then◌else◌};
 ghost use Rattle.abc_base.specs.Faults.{Rose};
+ghost use Rattle.abc_base.specs.Taking.{TakesAtMost};
 ghost use Rattle.abc_file_types.specs.Numbers.{u16 as two_bytes};
 ghost use Rattle.abc_file_types.specs.Part.{checked, image};
 ghost use Rattle.abc_file.specs.Reading.{AnswersFile, AnswersKept, IsFaultOf, IsNew, IsTrailing, IsUsedUp, OfInput};
@@ -7,12 +8,12 @@ ghost use Rattle.abc_bodies.specs.Places.{ArePlaces, KeepPlaces};
 ghost use Rattle.abc_bodies.specs.Reading.{keeping};
 ghost use Rattle.abc_file_types.specs.Bodies.{IsReadyBody};
 ghost use Rattle.abc_file_types.specs.Files.{Fits, IsFile, file_read, version};
-ghost use Rattle.abc_varint.specs.Reads.{ReadsPart};
+ghost use Rattle.abc_varint.specs.Reads.{IsInput, ReadsPart, known};
 ghost use Rattle.abc_varint.specs.declared.error.ReadError.{ReadError};
 
 use crate::rest::read_nothing_more;
 use abc_base::Source;
-use abc_bodies::{Keeping, NoPlaces, Places, read_bodies};
+use abc_bodies::{Keeping, NoPlaces, Places, read_bodies_keeping};
 use abc_file_types::{Abc, Reason};
 use abc_pools::read_pools;
 use abc_traits::read_definitions;
@@ -55,7 +56,6 @@ fn read_file<S: Source, K: Keeping>(
     w: &mut Window,
     source: &mut S,
 ) -> Result<(Abc, K), ReadError>
-    requires { w.old.end ≡ 2 ^ 25 }
     ensures value { ReadsPart S.left S.faults (image (keeping K.of_places) file_read) w.old source.old w.new source.new result }
     ensures places { IfOk result (λ x. KeepPlaces K.of_places (x.0).bodies x.1) }
     ensures ready { IfOk result (λ x. All IsReadyBody (x.0).bodies) }
@@ -63,7 +63,7 @@ fn read_file<S: Source, K: Keeping>(
     read_version(w, source)?;
     let mut abc = read_pools(alloc, w, source)?;
     read_definitions(alloc, w, source, &mut abc)?;
-    let places = read_bodies(alloc, w, source, &mut abc)?;
+    let places = read_bodies_keeping(alloc, w, source, &mut abc)?;
     Ok((abc, places))
 }
 
@@ -79,6 +79,7 @@ fn read_to_end<S: Source, K: Keeping>(
     ensures fits { IfOk result (λ x. Fits x.0) }
     ensures places { IfOk result (λ x. KeepPlaces K.of_places (x.0).bodies x.1) }
     ensures ready { IfOk result (λ x. All IsReadyBody (x.0).bodies) }
+    ensures input { IsInput w.old (S.left source.old) (known w.new (S.left source.new)) }
     ensures end { OnOk result (IsUsedUp (S.left source.old) (S.left source.new)) }
     ensures later { S.faults source.old ≤ S.faults source.new }
     ensures cause { result ≡ Err ReadError.ReadFault → Rose (S.faults source.old) (S.faults source.new) }
@@ -94,24 +95,28 @@ fn read_keeping<S: Source, K: Keeping>(alloc: Global, source: &mut S) -> Result<
     ensures fits { IfOk result (λ x. Fits x.0) }
     ensures places { IfOk result (λ x. KeepPlaces K.of_places (x.0).bodies x.1) }
     ensures ready { IfOk result (λ x. All IsReadyBody (x.0).bodies) }
+    ensures taken { TakesAtMost (S.left source.old) (S.left source.new) (2 ^ 24 + 1) }
     ensures end { OnOk result (IsUsedUp (S.left source.old) (S.left source.new)) }
     ensures later { S.faults source.old ≤ S.faults source.new }
     ensures cause { result ≡ Err ReadError.ReadFault → Rose (S.faults source.old) (S.faults source.new) }
 {
     let mut w = Window::new(alloc)?;
-    read_to_end(alloc, &mut w, source)
+    let file = read_to_end(alloc, &mut w, source);
+    w.stays_small();
+    file
 }
 
 /// Reads a file to the input's end, and gives where the instructions of its bodies began. It is refused at its first
 /// fault, by the place of that fault and its reason; a byte that follows a complete file is refused by `Trailing`.
-/// `ReadFault` comes only where the source's count of faults rose. At most 2^24 + 1 bytes are taken, whatever the source
-/// gives. Whether the source tells its bytes or not, some bytes spell what was read, and the places are those of its
+/// `ReadFault` comes only where the source's count of faults rose. At most 2^24 + 1 bytes are taken, whatever is
+/// answered. Whether the source tells its bytes or not, some bytes spell what was read, and the places are those of its
 /// instructions.
 pub fn read<S: Source>(alloc: Global, source: &mut S) -> Result<(Abc, Places), ReadError>
     ensures answers { OfInput (S.left source.old) (λ b. AnswersFile b result) }
     ensures fits { IfOk result (λ x. Fits x.0) }
     ensures places { IfOk result (λ x. ArePlaces (x.0).bodies x.1) }
     ensures ready { IfOk result (λ x. All IsReadyBody (x.0).bodies) }
+    ensures taken { TakesAtMost (S.left source.old) (S.left source.new) (2 ^ 24 + 1) }
     ensures end { OnOk result (IsUsedUp (S.left source.old) (S.left source.new)) }
     ensures later { S.faults source.old ≤ S.faults source.new }
     ensures cause { result ≡ Err ReadError.ReadFault → Rose (S.faults source.old) (S.faults source.new) }
@@ -124,6 +129,7 @@ pub fn read_alone<S: Source>(alloc: Global, source: &mut S) -> Result<Abc, ReadE
     ensures file { IfOk result (λ v. OfInput (S.left source.old) (IsFile v)) }
     ensures fault { IfErr result (λ e. IsFaultOf (S.left source.old) e) }
     ensures fits { IfOk result Fits }
+    ensures taken { TakesAtMost (S.left source.old) (S.left source.new) (2 ^ 24 + 1) }
     ensures end { OnOk result (IsUsedUp (S.left source.old) (S.left source.new)) }
     ensures later { S.faults source.old ≤ S.faults source.new }
     ensures cause { result ≡ Err ReadError.ReadFault → Rose (S.faults source.old) (S.faults source.new) }

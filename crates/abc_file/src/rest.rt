@@ -1,7 +1,7 @@
 ghost use Rattle.std.specs.Prelude.{◌≡◌, ◌≤◌, Err, IfErr, OnOk, None};
 ghost use Rattle.abc_base.specs.Faults.{Rose};
 ghost use Rattle.abc_file.specs.Reading.{IsEnd, IsTrailing, IsUsedUp};
-ghost use Rattle.abc_varint.specs.View.{kept_of};
+ghost use Rattle.abc_varint.specs.Reads.{IsInput, Keeps, known};
 ghost use Rattle.abc_varint.specs.declared.error.ReadError.{ReadError};
 
 use abc_base::Source;
@@ -14,8 +14,9 @@ pub fn read_nothing_more<S: Source>(w: &mut Window, source: &mut S) -> Result<()
     requires { w.old.kept ≡ None }
     ensures ended { OnOk result (IsEnd w.old (S.left source.old) w.new (S.left source.new)) }
     ensures trailing { IfErr result (λ e. IsTrailing w.old (S.left source.old) w.new (S.left source.new) e) }
+    ensures input { IsInput w.old (S.left source.old) (known w.new (S.left source.new)) }
     ensures stands { OnOk result ((w.new.kept ≡ None) × (w.new.place ≡ w.old.place) × (w.new.end ≡ w.old.end)) }
-    ensures kept { IfErr result (λ e. w.new.kept ≡ kept_of e) }
+    ensures keeps { Keeps w.old w.new result }
     ensures end { OnOk result (IsUsedUp (S.left source.old) (S.left source.new)) }
     ensures later { S.faults source.old ≤ S.faults source.new }
     ensures cause { result ≡ Err ReadError.ReadFault → Rose (S.faults source.old) (S.faults source.new) }

@@ -7,8 +7,7 @@ ghost use Rattle.abc_instr.specs.Marks.{mark_at, moved_in};
 
 use crate::read::read_length;
 use crate::resolve::Missed;
-use crate::scan::{Scan, scan_code};
-use crate::weave::put_scan;
+use crate::scan::{Scan, put_scan, scan_code};
 use abc_base::Source;
 use abc_file_types::Reason;
 use abc_varint::{ReadError, Window};
@@ -24,8 +23,6 @@ pub fn pass_code<S: Source>(
     scan: &mut Scan,
     out: &mut Vec<u8>,
 ) -> Result<(), ReadError>
-    // The window has no end.
-    requires { w.old.end ≡ 2 ^ 25 }
     ensures { PassesPart S.left S.faults code_part (λ c. code_bytes c.instrs) moved_in w.old source.old w.new source.new out.old.items out.new.items (stored result (mark_at (scan.new).marks)) }
 {
     let length = read_length(w, source)?;

@@ -57,8 +57,6 @@ pub fn read_code_within<S: Source>(
     source: &mut S,
     reading: &mut Reading,
 ) -> Result<Table<Instr>, ReadError>
-    // The window has no end.
-    requires { w.old.end ≡ 2 ^ 25 }
     ensures value { ReadsPart S.left S.faults code_part w.old source.old w.new source.new (with_offsets result (reading.new).starts) }
     ensures rising { OnOk result (IsRising (reading.new).starts) }
     ensures count { IfOk result (λ is. length (reading.new).starts ≡ length is + 1) }
@@ -88,8 +86,6 @@ pub fn read_code<S: Source>(
     w: &mut Window,
     source: &mut S,
 ) -> Result<Code, ReadError>
-    // The window has no end.
-    requires { w.old.end ≡ 2 ^ 25 }
     ensures value { ReadsPart S.left S.faults code_part w.old source.old w.new source.new result }
     ensures answers { Answers code_part w.old (S.left source.old) w.new (S.left source.new) result }
     ensures rising { IfOk result (λ c. IsRising c.offsets) }

@@ -151,9 +151,9 @@ fn read_until<S: Source>(
     reading: &mut Reading,
 ) -> Result<(), ReadError>
     requires fresh { w.old.kept ≡ None }
-    requires end { w.old.end ≡ w.old.place + byte_count }
+    requires end { w.old.end ≤ w.old.place + byte_count }
     requires small { byte_count < 2 ^ 23 }
-    ensures value { ReadsPieces (ReadsUntil (pieces_part byte_count).reads w.old (S.left source.old) w.new (S.left source.new)) IsReading byte_count w.old w.new reading.new result }
+    ensures value { ReadsPieces (ReadsUntil byte_count (pieces_part byte_count).reads w.old (S.left source.old) w.new (S.left source.new)) IsReading byte_count w.old w.new reading.new result }
     ensures later { S.faults source.old ≤ S.faults source.new }
     ensures cause { Blames w.old (S.faults source.old) (S.faults source.new) result }
     ensures keeps { Keeps w.old w.new result }
@@ -171,7 +171,7 @@ fn read_until<S: Source>(
     Ok(())
 }
 
-/// Reads the instructions of so many bytes, within an end of the window that is set for them.
+/// Reads the instructions of so many bytes, within an end that is set for them, and no further than the window's own.
 fn read_within<S: Source>(
     alloc: Global,
     w: &mut Window,
@@ -180,7 +180,6 @@ fn read_within<S: Source>(
     reading: &mut Reading,
 ) -> Result<(), ReadError>
     requires fresh { w.old.kept ≡ None }
-    requires end { w.old.end ≡ 2 ^ 25 }
     requires small { byte_count < 2 ^ 23 }
     ensures value { ReadsPieces (Reads (pieces_part byte_count).reads w.old (S.left source.old) w.new (S.left source.new)) IsReading byte_count w.old w.new reading.new result }
     ensures later { S.faults source.old ≤ S.faults source.new }
@@ -188,7 +187,7 @@ fn read_within<S: Source>(
     ensures keeps { Keeps w.old w.new result }
 {
     let outer = w.end();
-    let end = w.place() + byte_count;
+    let end = outer.min(w.place() + byte_count);
     w.set_end(end);
     let done = read_until(alloc, w, source, byte_count, reading);
     w.set_end(outer);
@@ -204,7 +203,6 @@ pub fn read_pieces<S: Source>(
     reading: &mut Reading,
 ) -> Result<(), ReadError>
     requires fresh { w.old.kept ≡ None }
-    requires end { w.old.end ≡ 2 ^ 25 }
     requires small { byte_count < 2 ^ 23 }
     ensures value { ReadsPieces (Reads (pieces_part byte_count).reads w.old (S.left source.old) w.new (S.left source.new)) IsRead byte_count w.old w.new reading.new result }
     ensures later { S.faults source.old ≤ S.faults source.new }

@@ -3,11 +3,13 @@
 #![tactic(auto)]
 
 mod doubles;
+mod laws;
 mod multinames;
 mod pass;
 mod pools;
 mod spaces;
 
+pub use laws::pools_law;
 pub use multinames::{put_multiname, read_multiname};
 pub use pass::pass_pools;
 pub use pools::{put_pools, read_pools, shortest_spelling};

@@ -1,19 +1,20 @@
 -- An Abc is filled with the tables that were read beside its pools.
-use Rattle.std.proofs.Common.{◌≡◌, ℕ, ◌^◌, length, List, Ok, Err, refl, sym, subst, ◌∙◌, min, arith}
+use Rattle.std.proofs.Common.{◌≡◌, ℕ, ◌^◌, ◌++◌, length, List, Ok, Err, refl, sym, ap, subst, ◌∙◌, min, arith}
 use Rattle.std.specs.declared.result.Result.{Result}
 use Rattle.std.specs.declared.option.Option.{Option}
 use Rattle.abc_file_types.specs.Part.{At, Part, image, ◌>>=◌}
 use Rattle.abc_file_types.specs.Numbers.{u30}
 use Rattle.abc_file_types.specs.declared.tables.Abc.{Abc}
 use Rattle.abc_file_types.specs.declared.tables.Sizes.{Sizes}
-use Rattle.abc_file_types.specs.Classes.{instance, class_info, script, sizes_with, definitions}
+use Rattle.abc_file_types.specs.Classes.{instance, class_info, script, sizes_of, sizes_with, definitions, definitions_bytes}
 use Rattle.abc_file_types.specs.Sizes.{capped}
 use Rattle.abc_varint.specs.declared.error.ReadError.{ReadError}
 use Rattle.abc_varint.specs.declared.error.ReadError.TheVariants as errors
 use Rattle.abc_varint.specs.View.{View}
-use Rattle.abc_varint.specs.Reads.{Reads, known, stand}
+use Rattle.abc_varint.specs.Passes.{Passes}
+use Rattle.abc_varint.specs.Reads.{Fails, Reads, known, stand}
 use Rattle.abc_traits.specs.declared.definitions.Definitions.{Definitions}
-use Rattle.abc_traits.specs.Definitions.{with_definitions, sizes_within, tables}
+use Rattle.abc_traits.specs.Definitions.{with_definitions, sizes_beside, sizes_within, tables, tables_bytes}
 use Rattle.abc_traits.proofs.Alike.{Alike, alike_refl, alike_sym, alike_trans, image-alike, image_image, then-alike, times-alike, counted-alike}
 use Rattle.abc_traits.proofs.Capped.{method-capped, metadata-capped, instance-capped, class_info-capped, script-capped}
 
@@ -84,3 +85,34 @@ fills_err abc pools w s w2 s2 e same h = fills abc w s w2 s2 (Err e) (subst (λ 
 -- the definitions beside an Abc's pools are read as the tables are, and fill it
 pub filled : (abc : Abc) (pools : Sizes) (from : At) → pools ≡ sizes_with abc 0 0 0 → (definitions abc).reads from ≡ ((tables pools).reads from >>= λ x. Ok (with_definitions abc x.0, x.1))
 filled abc pools from same = sym ((definitions_alike abc).same from) ∙ rw same refl
+
+-- and passed as they are
+put_alike : (abc : Abc) (d : Definitions) → tables_bytes d ≡ definitions_bytes (with_definitions abc d)
+unfolding definitions_bytes
+put_alike abc d = refl
+
+pub definitions_fail : (e : ReadError) (abc : Abc) (pools : Sizes) (from : At) → pools ≡ sizes_with abc 0 0 0 → Fails e ((tables pools).reads from) → Fails e ((definitions abc).reads from)
+definitions_fail (errors.Refused place reason) abc pools from same f = rw (filled abc pools from same, f) refl
+definitions_fail errors.ReadFault abc pools from same f = tt
+definitions_fail errors.NoMemory abc pools from same f = tt
+
+pub passes_definitions : (abc : Abc) (pools : Sizes) (w : View) (s : Option (List ℕ)) (w2 : View) (s2 : Option (List ℕ)) (old new : List ℕ) (r : Result Sizes ReadError)
+    → pools ≡ sizes_with abc 0 0 0 → Passes (tables pools) tables_bytes (sizes_beside pools) w s w2 s2 old new r → Passes (definitions abc) definitions_bytes sizes_of w s w2 s2 old new r
+passes_definitions abc pools w s w2 s2 old new (Ok sizes) same h = (
+  h.0,
+  h.1,
+  h.2,
+  h.3,
+  λ input is.
+      let d = h.4 input is in
+      let x = d.1 in (
+        d.0,
+        record {
+          value = with_definitions abc x.value;
+          read = rw (filled abc pools (stand w input) same, x.read) refl;
+          bytes = x.bytes ∙ ap (λ (b : List ℕ). old ++ b) (put_alike abc x.value);
+          tells = x.tells ∙ ap (λ (v : Sizes). sizes_beside v x.value) same;
+        },
+      ),
+)
+passes_definitions abc pools w s w2 s2 old new (Err e) same h = λ fresh. ((h fresh).0, definitions_fail e abc pools (stand w (known w2 s2)) same (h fresh).1)

@@ -12,6 +12,6 @@ mod pass;
 mod traits;
 
 pub use definitions::{Definitions, put_definitions, read_definitions};
-pub use laws::definitions_law;
+pub use laws::{definition_parts_law, definitions_law};
 pub use pass::pass_definitions;
 pub use traits::TraitCodec;

@@ -1,4 +1,6 @@
 ghost use Rattle.std.specs.Prelude.{◌≡◌, ◌≤◌, ℕ, [], ◌∷◌, ◌++◌, None, Some, Err, IfOk, length};
+ghost use Rattle.abc_file_types.specs.Classes.{definitions, definitions_bytes, sizes_of, sizes_with};
+ghost use Rattle.abc_file_types.specs.declared.tables.Abc.{Abc as AnyAbc};
 ghost use Rattle.abc_traits.specs.Definitions.{class_tables, class_tables_bytes, tables, tables_bytes, sizes_beside};
 ghost use Rattle.abc_varint.specs.Passes.{Passes, PassesPart};
 ghost use Rattle.abc_varint.specs.Reads.{Reads, ReadsPart};
@@ -29,11 +31,9 @@ fn pass_classes<S: Source>(
     Ok(count)
 }
 
-/// Reads the definitions beside pools of these sizes, as `read_definitions` does, and appends the canonical bytes of each
-/// field before the next is read. None is kept: gives how many entries the tables have. After an Err `out` may hold any
-/// bytes.
+/// Passes the five tables, beside pools of these sizes. Gives how many entries the tables have.
 #[tactic(auto, unfolding(crate::specs::Definitions::tables))]
-pub fn pass_definitions<S: Source>(
+fn pass_tables<S: Source>(
     alloc: Global,
     w: &mut Window,
     source: &mut S,
@@ -54,4 +54,19 @@ pub fn pass_definitions<S: Source>(
     };
     pass_classes(alloc, w, source, &sizes, count, out)?;
     Ok(sizes)
+}
+
+/// Reads the definitions beside pools of these sizes, as `read_definitions` does, and appends the canonical bytes of each
+/// field before the next is read. None is kept: gives how many entries the tables have. After an Err `out` may hold any
+/// bytes.
+pub fn pass_definitions<S: Source>(
+    alloc: Global,
+    w: &mut Window,
+    source: &mut S,
+    pools: &Sizes,
+    out: &mut Vec<u8>,
+) -> Result<Sizes, ReadError>
+    ensures { (abc : AnyAbc) → pools.now ≡ sizes_with abc 0 0 0 → PassesPart S.left S.faults (definitions abc) definitions_bytes sizes_of w.old source.old w.new source.new out.old.items out.new.items result }
+{
+    pass_tables(alloc, w, source, pools, out)
 }

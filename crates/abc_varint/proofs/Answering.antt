@@ -1,14 +1,14 @@
 -- A reader of an exact part answers as its part says.
-use Rattle.std.proofs.Common.{◌≡◌, ℕ, ◌≤◌, List, Ok, Err, None, Some, [], refl, subst, arith}
+use Rattle.std.proofs.Common.{ℕ, ◌≤◌, List, Ok, Err}
 use Rattle.std.specs.declared.result.Result.{Result}
 use Rattle.std.specs.declared.option.Option.{Option}
-use Rattle.abc_file_types.specs.Part.{Part, At, refusal, limit}
+use Rattle.abc_file_types.specs.Part.{Part, refusal, limit}
 use Rattle.abc_file_types.specs.Law.{Exact}
 use Rattle.abc_varint.specs.declared.error.ReadError.{ReadError}
 use Rattle.abc_varint.specs.declared.error.ReadError.TheVariants as errors
 use Rattle.abc_varint.specs.View.{View}
 use Rattle.abc_varint.specs.Reads.{Reads, known, stand}
-use Rattle.abc_varint.specs.Answers.{Answers, IsAnswer}
+use Rattle.abc_varint.specs.Answers.{Answers}
 use Rattle.abc_varint.proofs.Inputs.{known_is}
 
 pub answers : {A : Type 0} (p : Part A) → Exact p → (w w2 : View) (s s2 : Option (List ℕ)) (r : Result A ReadError) → w.place ≤ limit → Reads p.reads w s w2 s2 r → Answers p w s w2 s2 r

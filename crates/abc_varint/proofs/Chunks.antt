@@ -1,5 +1,5 @@
 -- Reading bytes many at a time, as they stand in the window.
-use Rattle.std.proofs.Common.{◌≡◌, ℕ, zero, suc, ◌+◌, ◌-◌, ◌<◌, ◌≤◌, List, [], ◌∷◌, ◌++◌, length, take, drop, length-append, length-take, Ok, Err, None, Some, refl, sym, ap, ◌∙◌, append_assoc, arith}
+use Rattle.std.proofs.Common.{◌≡◌, ℕ, zero, suc, ◌+◌, ◌-◌, ◌<◌, ◌≤◌, List, [], ◌∷◌, ◌++◌, length, take, drop, length-append, length-take, Ok, Err, refl, sym, ap, ◌∙◌, append_assoc, arith}
 use Rattle.std.specs.declared.result.Result.{Result}
 use Rattle.std.specs.declared.option.Option.{Option}
 use Rattle.abc_file_types.specs.Part.{At, Refusal, limit, ◌>>=◌}
@@ -8,7 +8,7 @@ use Rattle.abc_file_types.specs.Lists.{times}
 use Rattle.abc_file_types.proofs.Numbers.{byte_again}
 use Rattle.abc_varint.specs.Ready.{IsReady}
 use Rattle.abc_varint.specs.View.{View, held, onward}
-use Rattle.abc_varint.specs.Reads.{IsInput, Reads, stand}
+use Rattle.abc_varint.specs.Reads.{Input, IsInput, Reads, stand}
 use Rattle.std.proofs.lemmas.List.{drop-append-le, drop-drop}
 use Rattle.abc_varint.proofs.Inputs.{ahead, among, rest}
 use Rattle.abc_varint.proofs.Loop.{Going, beside, is_done, joined, nothing, starts, with_front}
@@ -39,14 +39,14 @@ chunk (suc k) m (x ∷ held) left end n le within room =
     rw (a, b, one, rest) (one_before x (take k held) ((times m u8).reads (placed end (n + 1 + k) (drop k held ++ left))))
 
 -- the bytes that are held, in an input
-chunk_of : (k m : ℕ) (w : View) (s : Option (List ℕ)) (input : List ℕ) → k ≤ length (held w) → (0 < k → w.place + k ≤ w.end) → w.place + k ≤ limit → IsInput w s input
+chunk_of : (k m : ℕ) (w : View) (s : Option (List ℕ)) (input : Input) → k ≤ length (held w) → (0 < k → w.place + k ≤ w.end) → w.place + k ≤ limit → IsInput w s input
     → (times (k + m) u8).reads (stand w input) ≡ with_front (take k (held w)) ((times m u8).reads (stand (onward k w) input))
 chunk_of zero m w s input few within room is =
     let a : 0 + m ≡ m = omega arith in let b : w.place + 0 ≡ w.place = omega arith in rw (a, b) (sym (nothing ((times m u8).reads (stand w input))))
 chunk_of (suc k) m w s input few within room is =
     let le : w.place ≤ length w.taken = omega (arith, among w (suc k) (omega arith) few) in
-    let here : drop w.place input ≡ held w ++ rest w input = ahead w s input le is in
-    let after : drop (w.place + suc k) input ≡ drop (suc k) (held w) ++ rest w input = sym (drop-drop (suc k) w.place input) ∙ ap (λ (t : List ℕ). drop (suc k) t) here ∙ drop-append-le (suc k) (held w) (rest w input) few in
+    let here : drop w.place input.bytes ≡ held w ++ rest w input = ahead w s input le is in
+    let after : drop (w.place + suc k) input.bytes ≡ drop (suc k) (held w) ++ rest w input = sym (drop-drop (suc k) w.place input.bytes) ∙ ap (λ (t : List ℕ). drop (suc k) t) here ∙ drop-append-le (suc k) (held w) (rest w input) few in
     rw (here, after) (chunk (suc k) m (held w) (rest w input) w.end w.place few within room)
 
 pub goes_far : (k total more less : ℕ) (items : List ℕ) (w0 : View) (s0 : Option (List ℕ)) (w : View) (s : Option (List ℕ)) → k + less ≡ more → k ≤ length (held w) → (0 < k → w.place + k ≤ w.end) → w.place + k ≤ limit

@@ -1,16 +1,16 @@
 -- Numbers and bytes that are read straight from those that a window holds.
-use Rattle.std.proofs.Common.{◌≡◌, ℕ, ℤ, ◌+◌, ◌*◌, ◌%◌, ◌<◌, ◌≤◌, List, [], ◌∷◌, ◌++◌, get_or, length, take, drop, length-take, Ok, None, Some, refl, sym, ap, ◌∙◌, append_assoc, arith}
+use Rattle.std.proofs.Common.{◌≡◌, ℕ, ℤ, ◌+◌, ◌*◌, ◌%◌, ◌<◌, ◌≤◌, List, [], ◌∷◌, ◌++◌, get_or, length, take, drop, length-take, Ok, refl, sym, ap, ◌∙◌, arith}
 use Rattle.std.specs.List.{AllByRecursion}
 use Rattle.std.specs.declared.option.Option.{Option}
 use Rattle.std.proofs.lemmas.List.{drop-drop, take-append-drop, take-append-le}
 use Rattle.abc_base.specs.Numbers.{SpellsNumber, number_bytes, signed24}
 use Rattle.abc_base.proofs.Spelling.{groups_number, number_shortest}
 use Rattle.abc_file_types.specs.Law.{Exact}
-use Rattle.abc_file_types.specs.Part.{Front, Part, limit}
+use Rattle.abc_file_types.specs.Part.{Front, Part}
 use Rattle.abc_file_types.specs.Numbers.{number, s24, u8}
 use Rattle.abc_file_types.proofs.Numbers.{number-exact, u8-exact}
 use Rattle.abc_varint.specs.Ready.{IsReady, TakesNumber}
-use Rattle.abc_varint.specs.Reads.{IsInput, Reads, ReadsNumber, stand}
+use Rattle.abc_varint.specs.Reads.{Input, IsInput, Reads, ReadsNumber, stand}
 use Rattle.abc_varint.specs.View.{View, GoesOver, held, onward}
 use Rattle.abc_varint.proofs.Inputs.{ahead, among, rest}
 
@@ -70,13 +70,13 @@ three_bytes (a ∷ b ∷ c ∷ r) z le e = ((a, (b, c)), (a ∷ [], b ∷ c ∷ 
 
 -- ---- what is read then
 
-front_of : (w : View) (s : Option (List ℕ)) (input : List ℕ) (n : ℕ) → w.place ≤ length w.taken → IsInput w s input → IsReady n w → Front (stand w input) (take n (held w)) (stand (onward n w) input)
+front_of : (w : View) (s : Option (List ℕ)) (input : Input) (n : ℕ) → w.place ≤ length w.taken → IsInput w s input → IsReady n w → Front (stand w input) (take n (held w)) (stand (onward n w) input)
 front_of w s input n among is r =
     let len : length (take n (held w)) ≡ n = omega (arith, length-take n (held w), r.held) in
-    let here : drop w.place input ≡ held w ++ rest w input = ahead w s input among is in
-    let front : take n (drop w.place input) ≡ take n (held w) = ap (λ (t : List ℕ). take n t) here ∙ take-append-le n (held w) (rest w input) r.held in
+    let here : drop w.place input.bytes ≡ held w ++ rest w input = ahead w s input among is in
+    let front : take n (drop w.place input.bytes) ≡ take n (held w) = ap (λ (t : List ℕ). take n t) here ∙ take-append-le n (held w) (rest w input) r.held in
     record {
-      parts = sym (take-append-drop n (drop w.place input)) ∙ ap (λ (t : List ℕ). t ++ drop n (drop w.place input)) front ∙ ap (λ (t : List ℕ). take n (held w) ++ t) (drop-drop n w.place input);
+      parts = sym (take-append-drop n (drop w.place input.bytes)) ∙ ap (λ (t : List ℕ). t ++ drop n (drop w.place input.bytes)) front ∙ ap (λ (t : List ℕ). take n (held w) ++ t) (drop-drop n w.place input.bytes);
       place = ap (λ (k : ℕ). w.place + k) (sym len);
       room = r.within;
       same = refl;

@@ -1,15 +1,15 @@
 -- The next byte of those that a window holds.
-use Rattle.std.proofs.Common.{◌≡◌, ℕ, suc, ◌+◌, ◌-◌, ◌<◌, ◌≤◌, ◌^◌, ◌∷◌, ◌++◌, List, get_or, take, drop, drop-cons, length, length-drop, length-take, refl, subst, sym, ap, ◌∙◌, Ok, Err, None, Some, [], arith, inl, inr, add-one}
+use Rattle.std.proofs.Common.{◌≡◌, ℕ, suc, ◌+◌, ◌-◌, ◌<◌, ◌≤◌, ◌^◌, ◌∷◌, ◌++◌, List, get_or, take, drop, drop-cons, length, length-drop, refl, subst, sym, ap, ◌∙◌, Ok, Err, None, [], arith, inl, inr, add-one}
 use Rattle.std.specs.declared.option.Option.{Option}
 use Rattle.std.specs.declared.result.Result.{Result}
-use Rattle.std.proofs.lemmas.List.{drop-append-le, drop-drop, drop-take}
+use Rattle.std.proofs.lemmas.List.{drop-drop, drop-take}
 use Rattle.std.proofs.lemmas.Bool.{le-ltb, lt-ltb}
 use Rattle.abc_file_types.specs.declared.reason.Reason.TheVariants as reasons
-use Rattle.abc_file_types.specs.Part.{At, Refusal, refusal, limit}
+use Rattle.abc_file_types.specs.Part.{At, refusal, limit}
 use Rattle.abc_file_types.specs.Numbers.{byte_at, u8}
 use Rattle.abc_varint.specs.declared.error.ReadError.{ReadError}
 use Rattle.abc_varint.specs.View.{View, NextOf, NextHere, held, onward}
-use Rattle.abc_varint.specs.Reads.{IsInput, Reads, known, stand, told}
+use Rattle.abc_varint.specs.Reads.{Input, IsInput, Reads, known, stand, told}
 use Rattle.abc_varint.proofs.Inputs.{ahead, ends_known, known_is, rest}
 
 -- a window whose block is read on by n bytes
@@ -56,9 +56,9 @@ after_one xs n x more e =
     let tail : more ≡ drop (suc n) xs = cc in
     rw add-one (sym tail)
 
-module _ (v v1 v2 : View) (s s1 : Option (List ℕ)) (place : v1.place ≡ v.place) (end : v1.end ≡ v.end) (same : (input : List ℕ) → IsInput v1 s1 input → IsInput v s input) where
+module _ (v v1 v2 : View) (s s1 : Option (List ℕ)) (place : v1.place ≡ v.place) (end : v1.end ≡ v.end) (same : (input : Input) → IsInput v1 s1 input → IsInput v s input) where
   -- in what is known, the window stands where it stood
-  stood : (input : List ℕ) → stand v1 input ≡ stand v input
+  stood : (input : Input) → stand v1 input ≡ stand v input
   stood input = rw (place, end) refl
 
   next_here : (bytes : List ℕ) (r : Result ℕ ReadError) → held v1 ≡ bytes → v.kept ≡ None → v1.kept ≡ None → (held v1 ≡ [] → told s1 ≡ []) → v1.place < v1.end → NextHere v1 bytes v2 r → Reads u8.reads v s v2 s1 r
@@ -76,14 +76,14 @@ module _ (v v1 v2 : View) (s s1 : Option (List ℕ)) (place : v1.place ≡ v.pla
         end,
         λ input is_input. (
           same input is_input,
-          let here : drop v1.place input ≡ x ∷ (more ++ rest v1 input) = ahead v1 s1 input (omega (arith, one_held v1.taken v1.place x more is)) is_input ∙ ap (λ (t : List ℕ). t ++ rest v1 input) is in
+          let here : drop v1.place input.bytes ≡ x ∷ (more ++ rest v1 input) = ahead v1 s1 input (omega (arith, one_held v1.taken v1.place x more is)) is_input ∙ ap (λ (t : List ℕ). t ++ rest v1 input) is in
               ap (λ (a : At). byte_at a.end a.place a.bytes) (sym (stood input)) ∙ ap (byte_at v1.end v1.place) here ∙ taken v1.end v1.place x (more ++ rest v1 input) lt h.0
-              ∙ ap (λ (t : List ℕ). Ok (x, record { place = v1.place + 1; bytes = t; end = v1.end })) (sym (after_one input v1.place x (more ++ rest v1 input) here)),
+              ∙ ap (λ (t : List ℕ). Ok (x, record { place = v1.place + 1; bytes = t; end = v1.end })) (sym (after_one input.bytes v1.place x (more ++ rest v1 input) here)),
         ),
       )
   next_here (x ∷ more) r is fresh clear ends lt (inr h) = rw (h.1, h.2) (λ k.
       let input = known v1 s1 in
-      let here : drop v1.place input ≡ x ∷ (more ++ rest v1 input) = ahead v1 s1 input (omega (arith, one_held v1.taken v1.place x more is)) (known_is v1 s1) ∙ ap (λ (t : List ℕ). t ++ rest v1 input) is in (
+      let here : drop v1.place input.bytes ≡ x ∷ (more ++ rest v1 input) = ahead v1 s1 input (omega (arith, one_held v1.taken v1.place x more is)) (known_is v1 s1) ∙ ap (λ (t : List ℕ). t ++ rest v1 input) is in (
         same input (known_is v1 s1),
         ap (λ (a : At). byte_at a.end a.place a.bytes) (sym (stood input)) ∙ ap (byte_at v1.end v1.place) here ∙ too_far v1.end v1.place x (more ++ rest v1 input) lt h.0,
       ))
@@ -92,7 +92,7 @@ module _ (v v1 v2 : View) (s s1 : Option (List ℕ)) (place : v1.place ≡ v.pla
   unfolding u8
   is_next r fresh clear ends (inl h) = rw (h.1, h.2) (λ k.
       let input = known v1 s1 in
-      (same input (known_is v1 s1), ap (λ (a : At). byte_at a.end a.place a.bytes) (sym (stood input)) ∙ past v1.end v1.place (drop v1.place input) h.0))
+      (same input (known_is v1 s1), ap (λ (a : At). byte_at a.end a.place a.bytes) (sym (stood input)) ∙ past v1.end v1.place (drop v1.place input.bytes) h.0))
   is_next r fresh clear ends (inr h) = next_here (held v1) r refl fresh clear (ends h.0) h.0 h.1
 
 -- how many are held, as contracts see it

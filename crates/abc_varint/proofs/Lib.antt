@@ -8,3 +8,4 @@ pub mod Fill
 pub mod Answering
 pub mod Steps
 pub mod Putting
+pub mod Refusing

@@ -8,7 +8,7 @@ use Rattle.abc_varint.specs.declared.error.ReadError.TheVariants as errors
 use Rattle.abc_file_types.specs.Part.{At, Refusal, refusal, Part, ◌>>=◌}
 use Rattle.abc_file_types.specs.Lists.{times}
 use Rattle.abc_varint.specs.View.{View}
-use Rattle.abc_varint.specs.Reads.{Reads, Fails, IsInput, stand}
+use Rattle.abc_varint.specs.Reads.{Reads, Fails, Input, IsInput, stand}
 
 -- what was read before, and what is still read
 abbrev pub with_front : {A : Type 0} → List A → Result (List A × At) Refusal → Result (List A × At) Refusal
@@ -19,8 +19,8 @@ pub record Going {A : Type 0} (p : Part A) (total more : ℕ) (items : List A) (
   pub fresh : w.kept ≡ None
   pub forth : w0.place ≤ w.place
   pub ends_at : w.end ≡ w0.end
-  pub told : (input : List ℕ) → IsInput w s input → IsInput w0 s0 input
-  pub same : (input : List ℕ) → IsInput w s input → with_front items ((times more p).reads (stand w input)) ≡ (times total p).reads (stand w0 input)
+  pub told : (input : Input) → IsInput w s input → IsInput w0 s0 input
+  pub same : (input : Input) → IsInput w s input → with_front items ((times more p).reads (stand w input)) ≡ (times total p).reads (stand w0 input)
 
 abbrev pub beside : {A : Type 0} → A → List A × At → Result ((A × List A) × At) Refusal
 beside x y = Ok ((x, y.0), y.1)
@@ -50,7 +50,7 @@ goes_on p total more less items w0 s0 w s w2 s2 x k g r = record {
 }
 
 -- an Err of the item that comes next is that of all
-pub ends : {A : Type 0} (e : ReadError) (p : Part A) (total more : ℕ) (items : List A) (w0 : View) (s0 : Option (List ℕ)) (w : View) (s : Option (List ℕ)) (input : List ℕ)
+pub ends : {A : Type 0} (e : ReadError) (p : Part A) (total more : ℕ) (items : List A) (w0 : View) (s0 : Option (List ℕ)) (w : View) (s : Option (List ℕ)) (input : Input)
     → 0 < more → Going p total more items w0 s0 w s → IsInput w s input × Fails e (p.reads (stand w input)) → IsInput w0 s0 input × Fails e ((times total p).reads (stand w0 input))
 ends (errors.Refused place reason) p total more items w0 s0 w s input lt g f =
     let k : more ≡ suc (more - 1) = omega arith in

@@ -1,5 +1,5 @@
 -- Passing items one after the other, as a loop does.
-use Rattle.std.proofs.Common.{◌≡◌, ℕ, zero, suc, ◌+◌, ◌-◌, nat_eq, if◌then◌else◌, ◌<◌, ◌≤◌, List, [], ◌∷◌, ◌++◌, length, Ok, Err, None, refl, sym, ap, ◌∙◌, append_assoc, arith}
+use Rattle.std.proofs.Common.{◌≡◌, ℕ, zero, suc, ◌-◌, nat_eq, if◌then◌else◌, ◌<◌, ◌≤◌, List, [], ◌∷◌, ◌++◌, length, Ok, Err, None, refl, sym, ap, ◌∙◌, append_assoc, arith}
 use Rattle.std.proofs.lemmas.List.{append-nil, flat_map_more}
 use Rattle.std.proofs.lemmas.Bool.Decides.{nat_tests}
 use Rattle.std.specs.List.{flat_map}
@@ -13,8 +13,8 @@ use Rattle.abc_file_types.specs.Canonical.{pool_bytes, pool_count}
 use Rattle.abc_file_types.specs.Lists.{times, counted, pool}
 use Rattle.abc_file_types.specs.Numbers.{u30}
 use Rattle.abc_varint.specs.View.{View}
-use Rattle.abc_varint.specs.Passes.{Passes, Rewrites, nothing}
-use Rattle.abc_varint.specs.Reads.{Reads, Fails, IsInput, stand}
+use Rattle.abc_varint.specs.Passes.{Passes, nothing}
+use Rattle.abc_varint.specs.Reads.{Reads, Fails, Input, IsInput, stand}
 use Rattle.abc_varint.proofs.Loop.{with_front, moved, beside, joined, nothing as no_front}
 
 -- Of `total` items some were read, and their bytes were appended; `more` are to come.
@@ -27,8 +27,8 @@ pub record PassesOn {A : Type 0} (p : Part A) (canonical : A → List ℕ) (tota
   pub fresh : w.kept ≡ None
   pub forth : w0.place ≤ w.place
   pub ends_at : w.end ≡ w0.end
-  pub told : (input : List ℕ) → IsInput w s input → IsInput w0 s0 input
-  pub same : (input : List ℕ) → IsInput w s input → Middle p canonical total more (stand w0 input) (stand w input) old new
+  pub told : (input : Input) → IsInput w s input → IsInput w0 s0 input
+  pub same : (input : Input) → IsInput w s input → Middle p canonical total more (stand w0 input) (stand w input) old new
 
 pub starts : {A : Type 0} (p : Part A) (canonical : A → List ℕ) (n : ℕ) (old : List ℕ) (w : View) (s : Option (List ℕ)) → w.kept ≡ None → PassesOn p canonical n (n - 0) old old w s w s
 starts {A = A} p canonical n old w s k = let e : n - 0 ≡ n = omega arith in record {
@@ -53,7 +53,7 @@ goes_on p canonical total more less old new new2 w0 s0 w s w2 s2 k g r = record 
   };
 }
 
-pub ends : {A : Type 0} (e : ReadError) (p : Part A) (canonical : A → List ℕ) (total more : ℕ) (old new : List ℕ) (w0 : View) (s0 : Option (List ℕ)) (w : View) (s : Option (List ℕ)) (input : List ℕ)
+pub ends : {A : Type 0} (e : ReadError) (p : Part A) (canonical : A → List ℕ) (total more : ℕ) (old new : List ℕ) (w0 : View) (s0 : Option (List ℕ)) (w : View) (s : Option (List ℕ)) (input : Input)
     → 0 < more → PassesOn p canonical total more old new w0 s0 w s → IsInput w s input × Fails e (p.reads (stand w input)) → IsInput w0 s0 input × Fails e ((times total p).reads (stand w0 input))
 ends (errors.Refused place reason) p canonical total more old new w0 s0 w s input lt g f =
     let k : more ≡ suc (more - 1) = omega arith in

@@ -20,7 +20,7 @@ pub use codec::{
 };
 pub use error::ReadError;
 pub use items::{EntryIndex, IndexBelow, Number32, PoolIndex, Signed32, Text};
-pub use laws::numbers_law;
+pub use laws::{lists_law, numbers_law, texts_law};
 pub use number::front_s24;
 pub use pass::{pass_counted, pass_pool, pass_times};
 pub use put::{put_count, put_s24, put_s32, put_text, put_u8, put_u16, put_u30, put_u32};

@@ -7,7 +7,7 @@ ghost use Rattle.abc_base.specs.Numbers.{SpellsNumber};
 ghost use Rattle.abc_file_types.specs.Numbers.{u8 as octet};
 ghost use Rattle.abc_varint.specs.View.{IsKept, NextOf, held, kept_of, onward};
 ghost use Rattle.abc_varint.specs.declared.error.ReadError.{ReadError};
-ghost use Rattle.abc_varint.specs.Reads.{Blames, IsInput, Keeps, Reads, known, stand, told};
+ghost use Rattle.abc_varint.specs.Reads.{AnswersAgain, Blames, Input, IsInput, Keeps, Reads, known, stand, told};
 ghost use Rattle.abc_varint.specs.Ready.{IsReady, TakesNumber};
 
 use crate::error::ReadError;
@@ -108,7 +108,8 @@ impl Window {
         e
     }
 
-    /// Tells the refusal by `CodeEnds` that is kept at another place, and keeps it so.
+    /// Tells the refusal by `CodeEnds` that is kept at another place, and keeps it so. It is the one call that changes an
+    /// Err that is kept: a reader of code tells its end at the opcode of the instruction that needs a byte past it.
     #[cold]
     #[inline(never)]
     pub fn blame(&mut self, place: u32) -> ReadError
@@ -134,12 +135,13 @@ impl Window {
     #[tactic(auto, using(crate::proofs::Inputs::not_at_end))]
     pub fn is_at_end<S: Source>(&mut self, source: &mut S) -> Result<bool, ReadError>
         ensures ok { OnOk result ((self.old.kept ≡ None) × (self.new.kept ≡ None) × (self.new.place ≡ self.old.place) × (self.new.end ≡ self.old.end)) }
-        ensures same { OnOk result ((input : List ℕ) → IsInput self.new (S.left source.new) input → IsInput self.old (S.left source.old) input) }
-        ensures value { IfOk result (λ b. IsTrue b ↔ (drop self.new.place (known self.new (S.left source.new)) ≡ [])) }
+        ensures same { OnOk result ((input : Input) → IsInput self.new (S.left source.new) input → IsInput self.old (S.left source.old) input) }
+        ensures value { IfOk result (λ b. IsTrue b ↔ (drop self.new.place (known self.new (S.left source.new)).bytes ≡ [])) }
         ensures none { IfOk result (λ b. IsTrue b → told (S.left source.new) ≡ []) }
         ensures input { self.old.kept ≡ None → OnErr result (IsInput self.old (S.left source.old) (known self.new (S.left source.new))) }
+        ensures stays { OnErr result (self.new.end ≡ self.old.end) }
         ensures keeps { IfErr result (λ e. IsKept e self.new) }
-        ensures kept { (e : ReadError) → self.old.kept ≡ Some e → result ≡ Err e }
+        ensures kept { AnswersAgain self.old source.old self.new source.new result }
         ensures no_memory { result ≡ Err ReadError.NoMemory → ⊥ }
         ensures fault { self.old.kept ≡ None → IfErr result (λ e. e ≡ ReadError.ReadFault) }
         ensures later { S.faults source.old ≤ S.faults source.new }
@@ -191,12 +193,12 @@ impl Window {
     /// Has a byte at hand, unless nothing is left.
     fn prepare<S: Source>(&mut self, source: &mut S) -> Result<(), ReadError>
         ensures ok { OnOk result ((self.old.kept ≡ None) × (self.new.kept ≡ None) × (self.new.place ≡ self.old.place) × (self.new.end ≡ self.old.end)) }
-        ensures same { OnOk result ((input : List ℕ) → IsInput self.new (S.left source.new) input → IsInput self.old (S.left source.old) input) }
+        ensures same { OnOk result ((input : Input) → IsInput self.new (S.left source.new) input → IsInput self.old (S.left source.old) input) }
         ensures end { OnOk result (self.old.place < self.old.end → held self.new ≡ [] → told (S.left source.new) ≡ []) }
         ensures input { self.old.kept ≡ None → OnErr result (IsInput self.old (S.left source.old) (known self.new (S.left source.new))) }
         ensures stays { OnErr result (self.new.end ≡ self.old.end) }
         ensures keeps { IfErr result (λ e. IsKept e self.new) }
-        ensures kept { (e : ReadError) → self.old.kept ≡ Some e → result ≡ Err e }
+        ensures kept { AnswersAgain self.old source.old self.new source.new result }
         ensures no_memory { result ≡ Err ReadError.NoMemory → ⊥ }
         ensures fault { self.old.kept ≡ None → IfErr result (λ e. e ≡ ReadError.ReadFault) }
         ensures later { S.faults source.old ≤ S.faults source.new }
@@ -216,7 +218,7 @@ impl Window {
         requires empty { held self.old ≡ [] }
         requires fresh { self.old.kept ≡ None }
         ensures ok { OnOk result ((self.new.kept ≡ None) × (self.new.place ≡ self.old.place) × (self.new.end ≡ self.old.end)) }
-        ensures same { OnOk result ((input : List ℕ) → IsInput self.new (S.left source.new) input → IsInput self.old (S.left source.old) input) }
+        ensures same { OnOk result ((input : Input) → IsInput self.new (S.left source.new) input → IsInput self.old (S.left source.old) input) }
         ensures end { OnOk result (held self.new ≡ [] → told (S.left source.new) ≡ []) }
         ensures input { OnErr result (IsInput self.old (S.left source.old) (known self.new (S.left source.new))) }
         ensures stays { OnErr result (self.new.end ≡ self.old.end) }
@@ -304,13 +306,13 @@ impl Window {
 
     /// The next byte.
     #[inline(always)]
-    pub fn next_u8<S: Source>(&mut self, source: &mut S) -> Result<u8, ReadError>
+    pub(crate) fn next_u8<S: Source>(&mut self, source: &mut S) -> Result<u8, ReadError>
         ensures value { Reads octet.reads self.old (S.left source.old) self.new (S.left source.new) result }
         ensures keeps { IfErr result (λ e. IsKept e self.new) }
         ensures moves { OnOk result (self.new.place ≡ self.old.place + 1) }
         ensures within { OnOk result (self.new.place ≤ self.old.end) }
         ensures stays { OnErr result (self.new.end ≡ self.old.end) }
-        ensures kept { (e : ReadError) → self.old.kept ≡ Some e → result ≡ Err e }
+        ensures kept { AnswersAgain self.old source.old self.new source.new result }
         ensures no_memory { result ≡ Err ReadError.NoMemory → ⊥ }
         ensures later { S.faults source.old ≤ S.faults source.new }
         ensures cause { Blames self.old (S.faults source.old) (S.faults source.new) result }
@@ -334,7 +336,7 @@ impl Window {
         ensures moves { OnOk result (self.new.place ≡ self.old.place + 1) }
         ensures within { OnOk result (self.new.place ≤ self.old.end) }
         ensures stays { OnErr result (self.new.end ≡ self.old.end) }
-        ensures kept { (e : ReadError) → self.old.kept ≡ Some e → result ≡ Err e }
+        ensures kept { AnswersAgain self.old source.old self.new source.new result }
         ensures no_memory { result ≡ Err ReadError.NoMemory → ⊥ }
         ensures later { S.faults source.old ≤ S.faults source.new }
         ensures cause { Blames self.old (S.faults source.old) (S.faults source.new) result }

@@ -10,7 +10,7 @@ returns-in_err-pass_code g c =
     let p = err_from_is_err_and c.from_residual.result c.from_residual.ensures.1 in
     let e = c.in_err-pass_code.field-0.0 in
     let v = c.in_err-pass_code.ensures in
-    rw (p.1, p.2) ((λ k. let f = v.0 k in (f.0, code_fails e c.args.sizes.now _ f.1)), (λ f h. other_err e f (v.1 f h)), v.2, (λ k h. v.3 k (other_err e errors.ReadFault h)), v.4)
+    rw (p.1, p.2) ((λ k. let f = v.0 k in (f.0, code_fails e c.args.sizes.now _ f.1)), (λ f h. let k = v.1 f h in (other_err e f k.0, k.1, k.2)), v.2, (λ k h. v.3 k (other_err e errors.ReadFault h)), v.4)
 
 pub returns-in_err-pass_handlers : goal.returns-in_err-pass_handlers
 returns-in_err-pass_handlers g c =

@@ -25,3 +25,12 @@ pub returns-clause-end : goal.returns-clause-end
 returns-clause-end g c =
     used_up_first c.args.w.now c.read_file.new.w (g.S.Source.left c.args.source.now) (g.S.Source.left c.read_file.new.source) (g.S.Source.left c.read_nothing_more.new.source) (λ input is. (c.in_ok-file.ensures.value.0.4 input is).0)
     c.in_ok-read_nothing_more.ensures.end
+
+pub returns-clause-input : goal.returns-clause-input
+returns-clause-input g c = (c.in_ok-file.ensures.value.0.4 _ c.in_ok-read_nothing_more.ensures.input).0
+
+pub returns-in_err-file-clause-input : goal.returns-in_err-file-clause-input
+returns-in_err-file-clause-input g c = (c.in_err-file.ensures.value.0 c.requires.kept).0
+
+pub returns-in_err-read_nothing_more-clause-input : goal.returns-in_err-read_nothing_more-clause-input
+returns-in_err-read_nothing_more-clause-input g c = (c.in_ok-file.ensures.value.0.4 _ c.in_err-read_nothing_more.ensures.input).0

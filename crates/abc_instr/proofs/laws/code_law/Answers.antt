@@ -7,7 +7,9 @@ use Rattle.abc_file_types.specs.declared.instructions.Code.{Code}
 use Rattle.abc_file_types.specs.Code.{SpellsCode, code, code_body}
 use Rattle.abc_file_types.specs.Instructions.{code_length}
 use Rattle.abc_file_types.proofs.CodeExact.{code-exact}
-use Rattle.abc_file_types.proofs.CodeShortest.{code_listing-canonical}
+use Rattle.abc_file_types.proofs.CodeParts.{instruction_place-exact}
+use Rattle.abc_file_types.proofs.CodeShortest.{code_listing-canonical, listing_ready, ready_spelled}
+use Rattle.abc_file_types.specs.CodeBytes.{code_bytes}
 use Rattle.abc_instr.specs.Laws.{SpellsWithLength}
 use Rattle.abc_instr.proofs.laws.code_law.Goals as goal
 
@@ -37,6 +39,9 @@ back c b s = (
 pub returns : goal.returns
 returns c = record {
   spelled = λ d b. (there d b, back d b);
+  exact = code-exact;
+  place = instruction_place-exact;
   determined = determined _ code-exact;
   shortest = code_listing-canonical;
+  ready = λ is. ((λ r. (code_bytes is, ready_spelled is r)), (λ s. listing_ready is s.0 s.1));
 }

@@ -53,7 +53,7 @@ loop-preserved g c =
       record {
         reading = reading_push xs x n here c.loop.reading (record c.loop.reading { starts = c.push.new.self }) c.take_next.new.self (omega (arith, inv.size)) inv.reading
             (rw (← c.place-first.ensures.is, ← c.place.ensures.is) c.in_ok-push.ensures) refl refl step.takes;
-        filling = rw raws (fill_goes_on (blamed instruction) c.args.byte_count c.loop.counter (raws_in xs) _ _ _ _ _ _ _ instruction-exact instruction-some (omega (arith, c.place-first.ensures.bound, c.place-first.ensures.is)) (omega (arith, c.requires.small)) inv.room c.loop-test.true
+        filling = rw raws (fill_goes_on (blamed instruction) c.args.byte_count c.loop.counter (raws_in xs) _ _ _ _ _ _ _ instruction-exact instruction-some inv.room c.loop-test.true
             (omega (arith, c.if-here-byte_count.false, c.place.ensures.is, c.place-first.ensures.is, inv.size)) inv.filling step.says_so);
         some = All-push (λ (p : Raw × ℕ). 0 < p.1) xs (x, n) inv.some (omega (arith, step.moves));
         raw = rw all (raw_push (instrs_in xs) x inv.raw step.raw);
@@ -70,7 +70,7 @@ unfolding pieces
 returns-in_err-take_next-clause-value g c =
     let p = err_from_is_err_and c.from_residual-in_err-take_next.result c.from_residual-in_err-take_next.ensures.1 in
     let inv = c.loop.invariant.1 in
-    rw (p.1, p.2) (λ k. fill_ends c.in_err-take_next.field-0.0 (blamed instruction) c.args.byte_count c.loop.counter (raws_in c.loop.invariant.0) _ _ _ _ _ (omega (arith, c.place-first.ensures.bound, c.place-first.ensures.is)) (omega (arith, c.requires.small)) c.loop-test.true
+    rw (p.1, p.2) (λ k. fill_ends c.in_err-take_next.field-0.0 (blamed instruction) c.args.byte_count c.loop.counter (raws_in c.loop.invariant.0) _ _ _ _ _ c.loop-test.true
     (omega (arith, c.if-here-byte_count.false, c.place.ensures.is, c.place-first.ensures.is, inv.size)) inv.filling (c.in_err-take_next.ensures.value inv.filling.fresh))
 
 pub returns-after-loop-clause-value : goal.returns-after-loop-clause-value

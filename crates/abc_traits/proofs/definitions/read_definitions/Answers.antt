@@ -15,7 +15,7 @@ pub returns-in-Ok-clause-value : goal.returns-in-Ok-clause-value
 returns-in-Ok-clause-value g c =
     let e = c.in-Ok.ensures in (
       fills_ok c.args.abc.now c.pool_sizes-pools.result c.args.w.now (g.S.Source.left c.args.source.now) c.read_tables.new.w (g.S.Source.left c.read_tables.new.source) c.in-Ok.found c.pool_sizes-pools.ensures e.0,
-      λ err k. absurd (let h = e.1 err k in cc),
+      λ err k. absurd (let h = (e.1 err k).0 in cc),
       e.2,
       λ k h. absurd cc,
       tt,
@@ -36,7 +36,7 @@ pub returns-in-Err-clause-value : goal.returns-in-Err-clause-value
 returns-in-Err-clause-value g c =
     let e = c.in-Err.ensures in (
       fills_err c.args.abc.now c.pool_sizes-pools.result c.args.w.now (g.S.Source.left c.args.source.now) c.read_tables.new.w (g.S.Source.left c.read_tables.new.source) c.in-Err.e c.pool_sizes-pools.ensures e.0,
-      λ err k. other_err c.in-Err.e err (e.1 err k),
+      λ err k. let h = e.1 err k in (other_err c.in-Err.e err h.0, h.1, h.2),
       e.2,
       λ k h. e.3 k (other_err c.in-Err.e errors.ReadFault h),
       e.4,

@@ -13,7 +13,7 @@ use Rattle.abc_varint.specs.Laws.{IsNumberForm}
 use Rattle.abc_varint.proofs.laws.numbers_law.Goals as goal
 
 form : {A : Type 0} (p : Part A) (f : A → List ℕ) → Exact p → IsCanonical p f → IsNumberForm p f
-form p f exact canonical = record { determined = determined p exact; shortest = canonical }
+form p f exact canonical = record { exact = exact; determined = determined p exact; shortest = canonical }
 
 pub returns-clause-u30 : goal.returns-clause-u30
 unfolding u30

@@ -1,4 +1,4 @@
-use Rattle.std.proofs.Common.{◌≡◌, ◌≤◌, ◌-◌}
+use Rattle.std.proofs.Common.{◌≤◌, ◌-◌}
 use Rattle.abc_varint.proofs.Passing.{PassesOn}
 use Rattle.abc_varint.proofs.pass.pass_times.Given as goal
 

@@ -1,4 +1,4 @@
-use Rattle.std.proofs.Common.{◌≤◌, ◌<◌, ◌-◌, ◌≡◌, arith}
+use Rattle.std.proofs.Common.{◌≤◌, ◌-◌, arith}
 use Rattle.abc_varint.proofs.Held.{held_onward, next_ok}
 use Rattle.abc_varint.proofs.window.Window.next.Goals as goal
 
