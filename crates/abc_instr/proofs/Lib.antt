@@ -1,8 +1,9 @@
 pub mod Fronts
 pub mod Marking
 pub mod Resolved
-pub mod Weaving
+pub mod Mending
 pub mod Scanned
+pub mod Adding
 pub mod Aiming
 pub mod Passing
 pub mod Filling

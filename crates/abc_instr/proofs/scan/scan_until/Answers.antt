@@ -1,4 +1,4 @@
-use Rattle.std.proofs.Common.{◌≡◌, ℕ, ◌-◌, ◌<◌, ◌++◌, ◌∷◌, [], refl, arith}
+use Rattle.std.proofs.Common.{◌≡◌, ℕ, ◌-◌, ◌<◌, ◌++◌, ◌∷◌, [], length, length-append, ap, refl, arith}
 use Rattle.std.proofs.lemmas.List.{map-append}
 use Rattle.std.proofs.lemmas.List.Elements.{All-nil, All-push}
 use Rattle.std.proofs.lemmas.Result.{err_from_is_err_and}
@@ -9,9 +9,9 @@ use Rattle.abc_file_types.specs.Instructions.{instruction, pieces}
 use Rattle.abc_file_types.proofs.CodeParts.{instruction-exact, instruction-some}
 use Rattle.abc_file_types.proofs.Resolving.{size-push}
 use Rattle.abc_instr.specs.Offsets.{raw_of}
-use Rattle.abc_instr.specs.Scanning.{instrs_in, raws_in}
-use Rattle.abc_instr.proofs.Resolved.{raw_push, raws_len-push}
-use Rattle.abc_instr.proofs.Scanned.{scan_push}
+use Rattle.abc_instr.specs.Scanning.{instrs_in, raw_bytes, raws_in}
+use Rattle.abc_instr.proofs.Resolved.{raw_push}
+use Rattle.abc_instr.proofs.Scanned.{bytes_len, code_len_is, scan_push}
 use Rattle.abc_instr.proofs.scan.scan_until.Goals as goal
 
 pub loop-init : goal.loop-init
@@ -19,13 +19,12 @@ loop-init g c =
     let e = c.begin.ensures in (
       [],
       record {
-        scan = record { marks = e.marks; plain = e.plain; jumps = e.jumps };
+        scan = record { marks = e.marks; code = e.code; holes = e.holes };
         filling = fill_starts (blamed instruction) c.args.byte_count c.args.w.now (g.S.Source.left c.args.source.now) c.requires.fresh c.requires.end;
         some = All-nil (λ (x : Raw × ℕ). 0 < x.1);
         raw = tt;
-        moved = refl;
         size = omega arith;
-        few = omega arith;
+        few = omega (arith, ap length e.code);
         room = omega (arith, c.place-first.ensures.is, c.place-first.ensures.bound);
         within = omega arith;
         later = omega arith;
@@ -36,7 +35,7 @@ pub loop-preserved : goal.loop-preserved
 loop-preserved g c =
     let xs = c.loop.invariant.0 in
     let inv = c.loop.invariant.1 in
-    let step = c.in_ok-moved.ensures.value in
+    let step = c.in_ok-pass_next.ensures.value in
     let x = step.instr in
     let n = c.pass_next.new.w.place - c.loop.w.place in
     let here = c.loop.w.place - c.args.w.now.place in
@@ -44,27 +43,27 @@ loop-preserved g c =
     let raws : raws_in (xs ++ (x, n) ∷ []) ≡ raws_in xs ++ (raw_of x, n) ∷ [] = map-append (λ (y : Raw × ℕ). (raw_of y.0, y.1)) xs ((x, n) ∷ []) in (
       xs ++ (x, n) ∷ [],
       record {
-        scan = scan_push xs x n here c.loop.moved c.loop.scan (record c.loop.scan { marks = c.set.new.self }) c.pass_next.new.self inv.some (omega (arith, inv.size)) inv.moved inv.scan (rw (← c.place-first.ensures.is, ← c.place.ensures.is) c.in_ok-set.ensures) refl refl step.marks (rw c.place-first.ensures.is at step.adds);
+        scan = scan_push xs x n here c.loop.scan (record c.loop.scan { marks = c.set.new.self }) c.pass_next.new.self inv.some inv.raw (omega (arith, inv.size)) inv.scan
+            (rw (← c.place-first.ensures.is, ← c.place.ensures.is, ← c.len-moved.ensures) c.in_ok-set.ensures) refl refl (rw c.place-first.ensures.is at step.adds);
         filling = rw raws (fill_goes_on (blamed instruction) c.args.byte_count c.loop.counter (raws_in xs) _ _ _ _ _ _ _ instruction-exact instruction-some inv.room c.loop-test.true
             (omega (arith, c.if-here-byte_count.false, c.place.ensures.is, c.place-first.ensures.is, inv.size)) inv.filling step.says_so);
         some = All-push (λ (p : Raw × ℕ). 0 < p.1) xs (x, n) inv.some (omega (arith, step.moves));
         raw = rw all (raw_push (instrs_in xs) x inv.raw step.raw);
-        moved = rw all (omega (arith, step.end_is, inv.moved, raws_len-push (instrs_in xs) x));
         size = omega (arith, inv.size, size-push xs (x, n), step.moves);
-        few = omega (arith, step.end_is, inv.few, step.passes.0);
+        few = omega (arith, inv.few, step.passes.0, ap length step.adds.code, length-append c.loop.scan.code.items (raw_bytes x), bytes_len x step.raw);
         room = step.room;
         within = omega (arith, step.passes.1, inv.filling.end);
-        later = omega (arith, inv.later, c.in_ok-moved.ensures.later);
+        later = omega (arith, inv.later, c.in_ok-pass_next.ensures.later);
       },
     )
 
-pub returns-in_err-moved-clause-value : goal.returns-in_err-moved-clause-value
+pub returns-in_err-pass_next-clause-value : goal.returns-in_err-pass_next-clause-value
 unfolding pieces
-returns-in_err-moved-clause-value g c =
-    let p = err_from_is_err_and c.from_residual-in_err-moved.result c.from_residual-in_err-moved.ensures.1 in
+returns-in_err-pass_next-clause-value g c =
+    let p = err_from_is_err_and c.from_residual-in_err-pass_next.result c.from_residual-in_err-pass_next.ensures.1 in
     let inv = c.loop.invariant.1 in
-    rw (p.1, p.2) (λ k. fill_ends c.in_err-moved.field-0.0 (blamed instruction) c.args.byte_count c.loop.counter (raws_in c.loop.invariant.0) _ _ _ _ _ c.loop-test.true
-    (omega (arith, c.if-here-byte_count.false, c.place.ensures.is, c.place-first.ensures.is, inv.size)) inv.filling (c.in_err-moved.ensures.value inv.filling.fresh))
+    rw (p.1, p.2) (λ k. fill_ends c.in_err-pass_next.field-0.0 (blamed instruction) c.args.byte_count c.loop.counter (raws_in c.loop.invariant.0) _ _ _ _ _ c.loop-test.true
+    (omega (arith, c.if-here-byte_count.false, c.place.ensures.is, c.place-first.ensures.is, inv.size)) inv.filling (c.in_err-pass_next.ensures.value inv.filling.fresh))
 
 pub returns-after-loop-clause-value : goal.returns-after-loop-clause-value
 unfolding pieces
@@ -73,8 +72,7 @@ returns-after-loop-clause-value g c =
     let inv = c.loop.invariant.1 in (
       xs,
       inv.scan,
-      record { some = inv.some; raw = inv.raw; size = omega (arith, inv.size, inv.within); few = omega (arith, inv.few, inv.moved, inv.within) },
-      inv.moved,
+      record { some = inv.some; raw = inv.raw; size = omega (arith, inv.size, inv.within); few = omega (arith, inv.few, code_len_is xs c.loop.scan inv.raw inv.scan, inv.within) },
       inv.size,
       fill_done (blamed instruction) c.args.byte_count c.loop.counter (raws_in xs) _ _ _ _ (omega (arith, inv.filling.room.1, c.loop-test.false)) c.requires.fresh inv.filling,
     )
@@ -86,8 +84,7 @@ returns-then-here-byte_count-clause-value g c =
     let inv = c.loop.invariant.1 in (
       xs,
       inv.scan,
-      record { some = inv.some; raw = inv.raw; size = omega (arith, inv.size, inv.within); few = omega (arith, inv.few, inv.moved, inv.within) },
-      inv.moved,
+      record { some = inv.some; raw = inv.raw; size = omega (arith, inv.size, inv.within); few = omega (arith, inv.few, code_len_is xs c.loop.scan inv.raw inv.scan, inv.within) },
       inv.size,
       fill_done (blamed instruction) c.args.byte_count c.loop.counter (raws_in xs) _ _ _ _ (omega (arith, c.if-here-byte_count.true, c.place.ensures.is, c.place-first.ensures.is, inv.size)) c.requires.fresh inv.filling,
     )
