@@ -14,7 +14,7 @@ returns-clause-bytes c =
     let many : vec_len code ≡ length code.items = omega (arith, code.ok.0) in
     let code_is : c.deref_mut.result.now ≡ c.args.scan.now.code.items = search rules in
     let holes_are : c.deref.result.now ≡ c.args.scan.now.holes.items = search rules in
-    put_mended c.args.scan.now c.args.out.now.items c.put_count.new.out.items c.put_bytes.new.out.items c.mend.new.code (rw many at (rw c.len.ensures at c.in_ok-put_count.ensures)) (rw (code_is, holes_are) at c.in_ok-mend.ensures) (c.in_ok-put_bytes.ensures ∙ let d = c.deref-2 in let m = c.deref_mut in ?)
+    put_mended c.args.scan.now c.args.out.now.items c.put_count.new.out.items c.put_bytes.new.out.items c.mend.new.code (rw many at (rw c.len.ensures at c.in_ok-put_count.ensures)) (rw (code_is, holes_are) at c.in_ok-mend.ensures) (c.in_ok-put_bytes.ensures ∙ ap (λ (l : List ℕ). c.put_count.new.out.items ++ l) c.deref-2.ensures.value)
 
 pub returns-in_err-mend-clause-bytes : goal.returns-in_err-mend-clause-bytes
 returns-in_err-mend-clause-bytes c =
