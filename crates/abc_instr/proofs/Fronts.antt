@@ -32,7 +32,7 @@ use Rattle.abc_instr.specs.declared.raw.RawInstr.TheVariants as raws
 use Rattle.abc_instr.specs.Offsets.{raw_len, raw_of}
 
 -- an opcode, with the operands of its form
-spelled : (op : ℕ) (form : Form) (x : RawInstr) (rest : List ℕ) → form_at op ≡ Some form → (operands op form).spells x rest → instruction.spells x (op ∷ rest)
+pub spelled : (op : ℕ) (form : Form) (x : RawInstr) (rest : List ℕ) → form_at op ≡ Some form → (operands op form).spells x rest → instruction.spells x (op ∷ rest)
 unfolding instruction opcode u8
 spelled op form x rest e s =
     let some : is_some (form_at op) ≡ true = rw e refl in
@@ -40,11 +40,11 @@ spelled op form x rest e s =
     (((op, form), x), (op ∷ [], rest, refl, (op, (refl, some), is), s), refl)
 
 -- a number that is below 2^30
-small : (n : ℕ) (b : List ℕ) → SpellsNumber n b → n < 2 ^ 30 → u30.spells n b
+pub small : (n : ℕ) (b : List ℕ) → SpellsNumber n b → n < 2 ^ 30 → u30.spells n b
 unfolding u30
 small n b s lt = (s, lt-ltb _ _ lt)
 
-taken_one : (k op : ℕ) (rest : List ℕ) → take (1 + k) (op ∷ rest) ≡ op ∷ take k rest
+pub taken_one : (k op : ℕ) (rest : List ℕ) → take (1 + k) (op ∷ rest) ≡ op ∷ take k rest
 taken_one k op rest = let e : 1 + k ≡ suc k = omega arith in rw e refl
 
 taken_two : (j k op : ℕ) (rest : List ℕ) → take (1 + j + k) (op ∷ rest) ≡ op ∷ (take j rest ++ take k (drop j rest))

@@ -4,6 +4,9 @@ pub mod Resolved
 pub mod Mending
 pub mod Scanned
 pub mod Adding
+pub mod Steps
+pub mod Running
+pub mod Until
 pub mod Aiming
 pub mod Passing
 pub mod Filling

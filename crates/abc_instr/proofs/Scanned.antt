@@ -111,10 +111,10 @@ all_marked h m (y ∷ xs) p some =
 
 -- ---- one more
 
-abbrev bytes_in : List (Raw × ℕ) → List ℕ
+abbrev pub bytes_in : List (Raw × ℕ) → List ℕ
 bytes_in xs = flat_map raw_bytes (instrs_in xs)
 
-all_bytes_len : (xs : List (Raw × ℕ)) → AreRaw (instrs_in xs) → length (bytes_in xs) ≡ raws_len (instrs_in xs)
+pub all_bytes_len : (xs : List (Raw × ℕ)) → AreRaw (instrs_in xs) → length (bytes_in xs) ≡ raws_len (instrs_in xs)
 all_bytes_len [] raw = refl
 all_bytes_len (x ∷ xs) raw = omega (arith, bytes_len x.0 raw.0, all_bytes_len xs raw.1, length-append (raw_bytes x.0) (bytes_in xs))
 

@@ -15,6 +15,7 @@ mod raw;
 mod read;
 mod reading;
 mod resolve;
+mod run;
 mod scan;
 mod starts;
 

@@ -1,4 +1,4 @@
-ghost use Rattle.std.specs.Prelude.{◌≡◌, ◌≤◌, ◌<◌, ◌+◌, ◌-◌, ◌*◌, ◌^◌, ◌++◌, ◌∷◌, [], All, None, OnOk, ℕ, length};
+ghost use Rattle.std.specs.Prelude.{◌≡◌, ◌≤◌, ◌<◌, ◌+◌, ◌-◌, ◌*◌, ◌^◌, ◌++◌, ◌∷◌, [], All, None, OnErr, OnOk, ℕ, length};
 ghost use Rattle.std.specs.List.{flat_map};
 ghost use Rattle.abc_file_types.specs.Canonical.{FitsS24, s24_bytes};
 ghost use Rattle.abc_file_types.specs.Ends.{blamed};
@@ -8,6 +8,7 @@ ghost use Rattle.abc_varint.specs.Reads.{Blames, Keeps, Reads, ReadsUntil, store
 ghost use Rattle.abc_instr.specs.Marks.{mark_at};
 ghost use Rattle.abc_instr.specs.Offsets.{raw_len, IsRaw};
 ghost use Rattle.abc_instr.specs.Resolving.{Resolves, onto};
+ghost use Rattle.abc_instr.specs.Runs.{ScansRun};
 ghost use Rattle.abc_instr.specs.Scanning.{Adds, IsHole, Scans, ScansOn, ScansInstrOn, case_holes, raw_bytes, scan_bytes};
 
 use crate::front::{Front, take_front};
@@ -16,6 +17,7 @@ use crate::marks::Marks;
 use crate::put::{SWITCH, put_free};
 use crate::raw::{RawInstr, read_raw};
 use crate::resolve::Missed;
+use crate::run::{AT_HAND, run};
 use abc_base::{NoMemory, Source, Table};
 use abc_varint::{ReadError, Window, put_count, put_s24, put_u8};
 use std::alloc::Global;
@@ -63,6 +65,33 @@ impl Scan {
         ensures { result ≡ length (self.now).code.items }
     {
         self.code.len() as u32
+    }
+
+    /// Passes by instructions straight from the bytes at hand, as far as they are in their shortest forms. `here` is where they
+    /// start in the code.
+    #[inline(always)]
+    fn pass_run(&mut self, w: &mut Window, here: u32) -> Result<(), NoMemory>
+        requires fresh { w.old.kept ≡ None }
+        requires small { here + (w.old.end - w.old.place) < 2 ^ 23 }
+        requires moved { length (self.old).code.items ≤ here }
+        ensures run { OnOk result (ScansRun here w.old w.new self.old self.new) }
+        ensures fresh { OnOk result (w.new.kept ≡ None) }
+        ensures forth { OnOk result (w.old.place ≤ w.new.place) }
+        ensures few { OnOk result (length (self.new).code.items + w.old.place ≡ length (self.old).code.items + w.new.place) }
+        ensures same { OnErr result (w.new ≡ w.old) }
+    {
+        w.stays_small();
+        let bytes = w.held();
+        let left = w.end().saturating_sub(w.place()) as usize;
+        let most = bytes.len().saturating_sub(AT_HAND).min(left);
+        self.marks.reach(here as usize + most)?;
+        let moved = self.len();
+        let count = run(bytes, most, here, moved, &mut self.marks, &mut self.holes)?;
+        self.code.extend_from_slice(&bytes[..count])?;
+        if count > 0 {
+            w.go_on(count);
+        }
+        Ok(())
     }
 
     /// Notes an offset, and appends it as it was read.
@@ -234,6 +263,38 @@ fn scan_until<S: Source>(
     scan.begin();
     let first = w.place();
     for _ in 0..byte_count {
+        let here = w.place() - first;
+        if here >= byte_count {
+            break;
+        }
+        let moved = scan.len();
+        scan.marks.set(here, moved)?;
+        scan.pass_next(alloc, w, source, first)?;
+    }
+    Ok(())
+}
+
+/// Scans the instructions up to the window's end.
+fn scan_runs<S: Source>(
+    alloc: Global,
+    w: &mut Window,
+    source: &mut S,
+    byte_count: u32,
+    scan: &mut Scan,
+) -> Result<(), ReadError>
+    requires fresh { w.old.kept ≡ None }
+    requires end { w.old.end ≤ w.old.place + byte_count }
+    requires small { byte_count < 2 ^ 23 }
+    ensures value { ScansOn (ReadsUntil byte_count (pieces_part byte_count).reads w.old (S.left source.old) w.new (S.left source.new)) byte_count w.old w.new scan.new result }
+    ensures later { S.faults source.old ≤ S.faults source.new }
+    ensures cause { Blames w.old (S.faults source.old) (S.faults source.new) result }
+    ensures keeps { Keeps w.old w.new result }
+{
+    scan.begin();
+    let first = w.place();
+    for _ in 0..byte_count {
+        let start = w.place() - first;
+        scan.pass_run(w, start)?;
         let here = w.place() - first;
         if here >= byte_count {
             break;
