@@ -111,9 +111,9 @@ run_on bytes here moved marks marks1 marks2 holes holes1 holes2 n k x run one ma
     let m : moved + raws_len (instrs_in xs) ≡ moved + n = ap (λ (k : ℕ). moved + k) len in
     let some = spelled_some xs bytes run.spelled in
     let starts : (p : ℕ) → start_in here moved (xs ++ (x, k) ∷ []) p ≡ started (start_in here moved xs) (start_in (here + n) (moved + n) ((x, k) ∷ []) p) p =
-        λ p. start_append here moved xs ((x, k) ∷ []) p some ∙ (λ t. started (start_in here moved xs) (start_in (h t) (m t) ((x, k) ∷ []) p) p) in
+    λ p. start_append here moved xs ((x, k) ∷ []) p some ∙ (λ t. started (start_in here moved xs) (start_in (h t) (m t) ((x, k) ∷ []) p) p) in
     let more : holes_from here moved (xs ++ (x, k) ∷ []) ≡ holes_from here moved xs ++ holes_from (here + n) (moved + n) ((x, k) ∷ []) =
-        holes_append here moved xs ((x, k) ∷ []) ∙ (λ t. holes_from here moved xs ++ holes_from (h t) (m t) ((x, k) ∷ [])) in
+    holes_append here moved xs ((x, k) ∷ []) ∙ (λ t. holes_from here moved xs ++ holes_from (h t) (m t) ((x, k) ∷ [])) in
     record {
       xs = xs ++ (x, k) ∷ [];
       spelled = spelled_push xs x k bytes run.spelled (subst (λ (m : ℕ). IsSpelled x k (drop m bytes)) (sym run.size) one.spelled);

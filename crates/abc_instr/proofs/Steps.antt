@@ -171,7 +171,7 @@ quick (Some forms.Debug) (op ∷ a ∷ b ∷ rest) len small small2 e lt lt2 = a
 quick None (op ∷ a ∷ b ∷ rest) len small small2 e lt lt2 = absurd (omega arith)
 
 at_least : (a k : ℕ) → (a < k → ⊥) → k ≤ a
-at_least a k no = elim (cases_lt a k) [ inl lt ↦ absurd (no lt) | inr ge ↦ ge ]
+at_least a k never = elim (cases_lt a k) [ inl lt ↦ absurd (never lt) | inr ge ↦ ge ]
 
 -- where they don't, and the first number has two bytes
 pub longer_one : (form : Option Form) (bytes : List ℕ) → 4 ≤ length bytes → get_or bytes 0 0 < 256 → get_or bytes 1 0 < 256 → form_at (get_or bytes 0 0) ≡ form

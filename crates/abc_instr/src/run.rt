@@ -1,5 +1,6 @@
 //! Runs of instructions that are in their shortest forms: they are copied as they stand.
-ghost use Rattle.std.specs.Prelude.{◌≡◌, ◌≤◌, ◌<◌, ◌+◌, ◌^◌, IfOk, get_or, length};
+ghost use Rattle.std.specs.Prelude.{◌≡◌, ◌≤◌, ◌<◌, ◌+◌, ◌^◌, IfOk, Some, get_or, length};
+ghost use Rattle.abc_file_types.specs.Opcodes.{form_at};
 ghost use Rattle.abc_instr.specs.declared.run.TheConstants.{STEPS as steps_of_code};
 ghost use Rattle.abc_instr.specs.Marks.{mark_at};
 ghost use Rattle.abc_instr.specs.Runs.{IsPassed, Runs, StepsOver, step_at};
@@ -146,10 +147,40 @@ fn step_len(bytes: &[u8]) -> usize
     longer_len(step, bytes)
 }
 
-/// Notes the offset of a branch at the front of so many bytes, from `here` on as they were read and from `moved` on in the
-/// canonical code. Gives how many bytes it has; 0, and nothing is noted, where there is none.
+/// Notes the offset of the branch at the front, from `here` on as it was read and from `moved` on in the canonical code. Gives
+/// how many bytes it has; 0, and nothing is noted, where it isn't within so many bytes.
 #[inline(always)]
 fn note_branch(
+    bytes: &[u8],
+    most: usize,
+    here: u32,
+    moved: u32,
+    holes: &mut Vec<Hole>,
+) -> Result<usize, NoMemory>
+    requires room { 4 ≤ length bytes.now }
+    requires form { form_at (get_or bytes.now 0 0) ≡ Some Form.Branch }
+    requires here { here + 4 < 2 ^ 32 }
+    requires moved { moved + 4 < 2 ^ 32 }
+    ensures step { IfOk result (λ n. 0 < n → StepsOver n bytes.now most here moved holes.old.items holes.new.items) }
+    ensures none { IfOk result (λ n. n ≡ 0 → holes.new.items ≡ holes.old.items) }
+{
+    if most < 4 {
+        return Ok(0);
+    }
+    holes.push(Hole {
+        place: here + 1,
+        at: moved + 1,
+        base: here + 4,
+        moved: moved + 4,
+        offset: front_s24(&bytes[1..]),
+    })?;
+    Ok(4)
+}
+
+/// The same where the instruction isn't passed by its numbers: a branch, or another.
+#[inline(always)]
+#[tactic(auto, unfolding(abc_file_types::specs::Opcodes::form_at))]
+fn other_over(
     bytes: &[u8],
     most: usize,
     here: u32,
@@ -165,17 +196,10 @@ fn note_branch(
     let Some(info) = opcode(bytes[0]) else {
         return Ok(0);
     };
-    if info.form != Form::Branch || most < 4 {
-        return Ok(0);
+    match info.form {
+        Form::Branch => note_branch(bytes, most, here, moved, holes),
+        _ => Ok(0),
     }
-    holes.push(Hole {
-        place: here + 1,
-        at: moved + 1,
-        base: here + 4,
-        moved: moved + 4,
-        offset: front_s24(&bytes[1..]),
-    })?;
-    Ok(4)
 }
 
 /// How many bytes the instruction at the front of so many has, where it is in its shortest form and no switch, and notes its
@@ -196,7 +220,7 @@ fn step_over(
 {
     let count = step_len(bytes);
     if count == 0 {
-        return note_branch(bytes, most, here, moved, holes);
+        return other_over(bytes, most, here, moved, holes);
     }
     if count > most {
         return Ok(0);
@@ -216,7 +240,7 @@ pub(crate) fn run(
     marks: &mut Marks,
     holes: &mut Vec<Hole>,
 ) -> Result<usize, NoMemory>
-    requires room { most + 4 ≤ length bytes.now }
+    requires room { 0 < most → most + 4 ≤ length bytes.now }
     requires places { here + most ≤ length marks.old }
     requires here { here + most < 2 ^ 23 }
     requires moved { moved ≤ here }

@@ -263,36 +263,6 @@ fn scan_until<S: Source>(
     scan.begin();
     let first = w.place();
     for _ in 0..byte_count {
-        let here = w.place() - first;
-        if here >= byte_count {
-            break;
-        }
-        let moved = scan.len();
-        scan.marks.set(here, moved)?;
-        scan.pass_next(alloc, w, source, first)?;
-    }
-    Ok(())
-}
-
-/// Scans the instructions up to the window's end.
-fn scan_runs<S: Source>(
-    alloc: Global,
-    w: &mut Window,
-    source: &mut S,
-    byte_count: u32,
-    scan: &mut Scan,
-) -> Result<(), ReadError>
-    requires fresh { w.old.kept ≡ None }
-    requires end { w.old.end ≤ w.old.place + byte_count }
-    requires small { byte_count < 2 ^ 23 }
-    ensures value { ScansOn (ReadsUntil byte_count (pieces_part byte_count).reads w.old (S.left source.old) w.new (S.left source.new)) byte_count w.old w.new scan.new result }
-    ensures later { S.faults source.old ≤ S.faults source.new }
-    ensures cause { Blames w.old (S.faults source.old) (S.faults source.new) result }
-    ensures keeps { Keeps w.old w.new result }
-{
-    scan.begin();
-    let first = w.place();
-    for _ in 0..byte_count {
         let start = w.place() - first;
         scan.pass_run(w, start)?;
         let here = w.place() - first;

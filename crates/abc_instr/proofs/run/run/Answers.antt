@@ -1,8 +1,6 @@
 use Rattle.std.proofs.Common.{◌-◌, ◌<◌, ◌∙◌, refl, arith}
 use Rattle.abc_instr.specs.Marks.{mark_at}
 use Rattle.abc_instr.proofs.Running.{run_starts, run_step}
-use Rattle.abc_instr.proofs.Steps.{branch, longer_one, longer_two, quick}
-use Rattle.abc_instr.proofs.Until.{until_done, until_run}
 use Rattle.abc_instr.proofs.run.run.Goals as goal
 
 pub loop-at-init : goal.loop-at-init
