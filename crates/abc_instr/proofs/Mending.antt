@@ -1,5 +1,5 @@
 -- What a scan of instructions puts, once its offsets are mended.
-use Rattle.std.proofs.Common.{◌≡◌, ℕ, suc, ℤ, pos, negsuc, ◌+ℤ◌, ◌-ℤ◌, ◌+◌, ◌-◌, ◌*◌, ◌<◌, ◌≤◌, option_map, false, List, [], ◌∷◌, ◌++◌, length, get_or, take, drop, Ok, Err, Some, None, refl, sym, ap, ◌∙◌, length-append, append_assoc, arith}
+use Rattle.std.proofs.Common.{◌≡◌, ℕ, suc, ℤ, pos, negsuc, ◌+ℤ◌, ◌-ℤ◌, ◌+◌, ◌-◌, ◌*◌, ◌<◌, option_map, false, List, [], ◌∷◌, ◌++◌, length, get_or, take, drop, Ok, Err, Some, None, refl, sym, ap, ◌∙◌, length-append, append_assoc, arith}
 use Rattle.std.specs.List.{flat_map, splice}
 use Rattle.std.specs.declared.option.Option.{Option}
 use Rattle.std.specs.declared.result.Result.{Result}

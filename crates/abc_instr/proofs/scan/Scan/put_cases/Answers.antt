@@ -1,7 +1,7 @@
 use mir.Val.{SFits}
 use Rattle.std.proofs.lemmas.Int.{to_z-of_z}
 use Rattle.std.specs.Int.{w32}
-use Rattle.std.proofs.Common.{◌≡◌, ◌∙◌, ◌<◌, ℤ, List, ap, length, get_or, refl, pos, arith, rules}
+use Rattle.std.proofs.Common.{◌≡◌, ◌∙◌, ap, length, get_or, pos, arith, rules}
 use Rattle.std.proofs.lemmas.List.{get_or_default}
 use Rattle.abc_instr.proofs.Adding.{case_code, case_hole, case_room}
 use Rattle.abc_instr.proofs.scan.Scan.put_cases.Goals as goal
