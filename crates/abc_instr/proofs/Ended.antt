@@ -26,8 +26,8 @@ module _ (reads : At → Result (List (RawInstr × ℕ) × At) Refusal) (n : ℕ
   read_back leaves reading (Ok t) h = (h.0, h.1, h.2, h.3, until_within reads n w s w2 s2 (Ok (raws_in h.0)) h.4)
   read_back leaves reading (Err e) h = until_within reads n w s w2 s2 (Err e) h
 
-  scan_back : (scan : Scan) (r : Result ℕ ReadError) → ScansOn (ReadsUntil n reads within s w2 s2) n within w2 scan r → ScansOn (Reads reads w s back s2) n w back scan r
-  scan_back scan (Ok moved) h = (h.0, h.1, h.2, h.3, h.4, until_within reads n w s w2 s2 (Ok (raws_in h.0)) h.5)
+  scan_back : {T : Type 0} (scan : Scan) (r : Result T ReadError) → ScansOn (ReadsUntil n reads within s w2 s2) n within w2 scan r → ScansOn (Reads reads w s back s2) n w back scan r
+  scan_back scan (Ok t) h = (h.0, h.1, h.2, h.3, until_within reads n w s w2 s2 (Ok (raws_in h.0)) h.4)
   scan_back scan (Err e) h = until_within reads n w s w2 s2 (Err e) h
 
   module _ (v w3 : View) (set : v ≡ within) (reset : w3 ≡ back) where
@@ -37,7 +37,7 @@ module _ (reads : At → Result (List (RawInstr × ℕ) × At) Refusal) (n : ℕ
         subst (λ (u : View). ReadsPieces (Reads reads w s u s2) leaves n w u reading r) (sym reset)
         (read_back leaves reading r (subst (λ (u : View). ReadsPieces (ReadsUntil n reads u s w2 s2) leaves n u w2 reading r) set h))
 
-    pub scan_within : (scan : Scan) (r : Result ℕ ReadError) → ScansOn (ReadsUntil n reads v s w2 s2) n v w2 scan r → ScansOn (Reads reads w s w3 s2) n w w3 scan r
+    pub scan_within : {T : Type 0} (scan : Scan) (r : Result T ReadError) → ScansOn (ReadsUntil n reads v s w2 s2) n v w2 scan r → ScansOn (Reads reads w s w3 s2) n w w3 scan r
     scan_within scan r h =
         subst (λ (u : View). ScansOn (Reads reads w s u s2) n w u scan r) (sym reset)
         (scan_back scan r (subst (λ (u : View). ScansOn (ReadsUntil n reads u s w2 s2) n u w2 scan r) set h))

@@ -1,13 +1,15 @@
 -- The instructions that bytes at hand begin with.
 use Rattle.std.specs.Prelude.{◌≤ℤ◌, ◌<ℤ◌, negsuc}
-use Rattle.std.proofs.Common.{◌≡◌, ℕ, ℤ, suc, pos, ◌%◌, ◌+◌, ◌-◌, ◌<◌, ◌≤◌, ◌^◌, List, [], ◌∷◌, ◌++◌, length, length-take, length-drop, take, drop, get_or, Some, Ok, refl, sym, ap, ◌∙◌, append_assoc, unwrap_or, is_some, true, arith}
+use Rattle.std.proofs.Common.{◌≡◌, ℕ, ℤ, suc, pos, ◌%◌, ◌*◌, ◌+◌, ◌-◌, ◌<◌, ◌≤◌, ◌^◌, inl, inr, subst, List, [], ◌∷◌, ◌++◌, length, length-take, length-drop, take, drop, get_or, Some, Ok, refl, sym, ap, ◌∙◌, append_assoc, unwrap_or, is_some, true, arith}
 use Rattle.std.specs.declared.option.Option.{Option}
-use Rattle.std.proofs.lemmas.Bool.{lt-ltb}
+use Rattle.std.proofs.lemmas.Bool.{cases_lt, le-ltb, lt-ltb}
+use Rattle.std.proofs.lemmas.Int.{ints}
 use Rattle.std.specs.Int.{w8, cast_signed}
 use Rattle.std.proofs.lemmas.List.{append-nil, take_all}
 use Rattle.std.proofs.Math.Seq.{take-add}
-use Rattle.abc_base.specs.Numbers.{SpellsNumber}
+use Rattle.abc_base.specs.Numbers.{SpellsNumber, signed24}
 use Rattle.abc_base.proofs.Spelling.{number_shortest}
+use Rattle.abc_file_types.specs.Canonical.{FitsS24}
 use Rattle.abc_file_types.specs.Ends.{blamed}
 use Rattle.abc_file_types.specs.Part.{limit}
 use Rattle.abc_file_types.specs.Numbers.{s24, u8, u30}
@@ -30,7 +32,7 @@ use Rattle.abc_instr.specs.declared.raw.RawInstr.TheVariants as raws
 use Rattle.abc_instr.specs.Offsets.{raw_len, raw_of}
 
 -- an opcode, with the operands of its form
-spelled : (op : ℕ) (form : Form) (x : RawInstr) (rest : List ℕ) → form_at op ≡ Some form → (operands op form).spells x rest → instruction.spells x (op ∷ rest)
+pub spelled : (op : ℕ) (form : Form) (x : RawInstr) (rest : List ℕ) → form_at op ≡ Some form → (operands op form).spells x rest → instruction.spells x (op ∷ rest)
 unfolding instruction opcode u8
 spelled op form x rest e s =
     let some : is_some (form_at op) ≡ true = rw e refl in
@@ -38,11 +40,11 @@ spelled op form x rest e s =
     (((op, form), x), (op ∷ [], rest, refl, (op, (refl, some), is), s), refl)
 
 -- a number that is below 2^30
-small : (n : ℕ) (b : List ℕ) → SpellsNumber n b → n < 2 ^ 30 → u30.spells n b
+pub small : (n : ℕ) (b : List ℕ) → SpellsNumber n b → n < 2 ^ 30 → u30.spells n b
 unfolding u30
 small n b s lt = (s, lt-ltb _ _ lt)
 
-taken_one : (k op : ℕ) (rest : List ℕ) → take (1 + k) (op ∷ rest) ≡ op ∷ take k rest
+pub taken_one : (k op : ℕ) (rest : List ℕ) → take (1 + k) (op ∷ rest) ≡ op ∷ take k rest
 taken_one k op rest = let e : 1 + k ≡ suc k = omega arith in rw e refl
 
 taken_two : (j k op : ℕ) (rest : List ℕ) → take (1 + j + k) (op ∷ rest) ≡ op ∷ (take j rest ++ take k (drop j rest))
@@ -125,6 +127,16 @@ byte_front puts (op ∷ x ∷ rest) z old new len form low high is lt put =
       put = put;
     }
 
+-- an offset that three bytes spell
+pub offset_fits : (z : ℤ) (b : List ℕ) → s24.spells z b → FitsS24 z
+unfolding s24
+offset_fits z b s = subst FitsS24 (sym s.2) (signed (s.0.0 % 256 + 256 * (s.0.1.0 % 256) + 65536 * (s.0.1.1 % 256)) (omega arith)) where
+  signed : (x : ℕ) → x < 2 ^ 24 → FitsS24 (signed24 x)
+  signed x lt = elim (cases_lt x (2 ^ 23)) [
+    | inl low ↦ rw (lt-ltb x (2 ^ 23) low) (omega (arith, ints), omega (arith, ints))
+    | inr high ↦ rw (le-ltb x (2 ^ 23) high) (omega (arith, ints), omega (arith, ints))
+  ]
+
 pub branch_front : {A : Type 0} (puts : Raw → List A) (bytes : List ℕ) (z : ℤ) (old : List A) → 11 ≤ length bytes → form_at (get_or bytes 0 0) ≡ Some forms.Branch → s24.spells z (take 3 (take (length bytes - 1) (drop 1 bytes)))
     → puts (raws.Branch (get_or bytes 0 0) z) ≡ [] → IsFront puts (fronts.Branch (get_or bytes 0 0) z) bytes old old
 branch_front puts [] z old len form s none = absurd (omega arith)
@@ -134,7 +146,7 @@ branch_front {A = A} puts (op ∷ rest) z old len form s none =
       spelled = spelled op forms.Branch (Branch op z) (take 3 rest) form (z, all_after s24.spells 1 3 z (op ∷ rest) s, refl);
       some = omega arith;
       few = omega arith;
-      raw = form;
+      raw = (form, offset_fits z _ s);
       short = omega arith;
       told = refl;
       put = sym (append-nil old) ∙ ap (λ (l : List A). old ++ l) (sym none);

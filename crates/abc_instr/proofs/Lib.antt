@@ -1,8 +1,12 @@
 pub mod Fronts
 pub mod Marking
 pub mod Resolved
-pub mod Weaving
+pub mod Mending
 pub mod Scanned
+pub mod Adding
+pub mod Steps
+pub mod Running
+pub mod Until
 pub mod Aiming
 pub mod Passing
 pub mod Filling

@@ -6,6 +6,7 @@ use Rattle.std.proofs.lemmas.Bool.{cases_lt}
 use Rattle.std.proofs.lemmas.Bool.Decides.{eqb_tells}
 use Rattle.std.proofs.lemmas.List.{get_or_append_left, get_or-append_right, get_or-set_same, get_or-set_other, get_or-replicate, length-replicate, take_all}
 use Rattle.std.proofs.Math.ListN.{get_or-eq_default}
+use Rattle.abc_instr.specs.declared.marks.TheConstants.{BLANK}
 use Rattle.abc_instr.specs.Marks.{mark_at, mark_of, marked, unmarked}
 
 -- a place past the end says nothing, and so do places that are added without marks
@@ -22,6 +23,9 @@ added table n p = elim (cases_lt p (length table)) [
 
 pub grown : (table grew : List ℕ) (n p : ℕ) → length table ≤ n → grew ≡ take n table ++ replicate (n - length table) unmarked → mark_at grew p ≡ mark_at table p
 grown table grew n p le e = rw (e, take_all n table le) (ap mark_of (added table (n - length table) p))
+
+pub blank_more : (table grew blank : List ℕ) (p : ℕ) → blank ≡ BLANK → grew ≡ table ++ blank → mark_at grew p ≡ mark_at table p
+blank_more table grew blank p is e = rw (e, is) (ap mark_of (added table 64 p))
 
 pub one_more : (table : List ℕ) (place moved p : ℕ) → place < length table → moved < 2 ^ 23 → mark_at (set table place moved) p ≡ marked place moved (mark_at table) p
 one_more table place moved p lt small = elim (eqb_tells p place) [

@@ -1,7 +1,6 @@
 -- What code says whose scan is put.
 use Rattle.std.proofs.Common.{◌≡◌, ℕ, suc, ◌+◌, ◌<◌, List, [], ◌∷◌, ◌++◌, length, Ok, Err, refl, sym, ap, ◌∙◌, arith}
 use Rattle.std.specs.Prelude.{All}
-use Rattle.std.specs.List.{flat_map}
 use Rattle.std.specs.declared.result.Result.{Result}
 use Rattle.std.proofs.lemmas.List.Elements.{All-append, All-nil, All-push}
 use Rattle.abc_base.specs.Numbers.{number_bytes}
@@ -21,9 +20,9 @@ use Rattle.abc_instr.specs.declared.raw.RawInstr.{RawInstr as Raw}
 use Rattle.abc_instr.specs.Offsets.{raw_of, raws_len, raws_sized}
 use Rattle.abc_instr.specs.Resolving.{onto}
 use Rattle.abc_instr.specs.Marks.{mark_at, moved_at}
-use Rattle.abc_instr.specs.Scanning.{AreRead, IsWhole, instrs_in, plain_bytes, raws_in, scan_bytes}
-use Rattle.abc_instr.proofs.Scanned.{alike}
-use Rattle.abc_instr.proofs.Weaving.{woven_is}
+use Rattle.abc_instr.specs.Scanning.{AreRead, IsWhole, instrs_in, raws_in, scan_bytes}
+use Rattle.abc_instr.proofs.Mending.{all_mended}
+use Rattle.abc_instr.proofs.Scanned.{alike, whole_len}
 
 -- where the instructions start in the canonical bytes, and where these end
 abbrev moved_starts : List (Raw × ℕ) → List ℕ
@@ -49,9 +48,8 @@ scan_is : (n : ℕ) (xs : List (Raw × ℕ)) (scan : Scan) → IsWhole xs scan �
 scan_is n xs scan is read =
     let ss = starts 0 xs in
     let ms = moved_starts xs in
-    let plain = flat_map plain_bytes (instrs_in xs) in
-    let w = woven_is ss ms plain (length xs) (length-starts 0 xs) xs 0 0 0 0 (omega arith) (omega arith) refl read.raw in
-    rw (is.marks, is.plain, is.jumps, is.len, w) (joins (instrs_of ss 0 (raws_in xs)) (number_bytes (raws_len (instrs_in xs))) ms) where
+    let len = whole_len xs scan read.raw is in
+    rw (is.marks, len, is.code, is.holes, all_mended ss ms (length xs) xs [] 0 0 (length-starts 0 xs) read.raw refl) (joins (instrs_of ss 0 (raws_in xs)) (number_bytes (raws_len (instrs_in xs))) ms) where
       joins : (r : Result (List Instr) Refusal) (front ms : List ℕ) → ((r >>= λ js. Ok ([] ++ instrs_bytes ms 0 js)) >>= λ b. Ok (front ++ b)) ≡ (r >>= λ js. Ok (front ++ instrs_bytes ms 0 js))
       joins (Ok js) front ms = refl
       joins (Err d) front ms = refl

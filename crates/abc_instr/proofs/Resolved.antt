@@ -68,7 +68,7 @@ instr_set ss here next n (raws.Same i) j count e raw =
 instr_set ss here next n (raws.Branch op z) j count e raw =
     let a = bind_ok (found (here + 1) (target_of ss next z)) (λ u. Ok (instrs.Branch op u)) j e in
     let same : instrs.Branch op a.0 ≡ j = let h = a.2 in cc in
-    subst (Set n (raws.Branch op z)) same (record { can = (raw, target_within ss (here + 1) next z n a.0 count a.1); len = refl })
+    subst (Set n (raws.Branch op z)) same (record { can = (raw.0, target_within ss (here + 1) next z n a.0 count a.1); len = refl })
 instr_set ss here next n (raws.Switch z zs) j count e raw =
     let a = bind_ok (found (here + 1) (target_of ss here z)) (λ u. cases_of ss here next zs >>= λ us. Ok (instrs.Switch u us)) j e in
     let b = bind_ok (cases_of ss here next zs) (λ us. Ok (instrs.Switch a.0 us)) j a.2 in

@@ -1,5 +1,5 @@
 -- What a scan knows of the instructions that were read, and how it grows.
-use Rattle.std.proofs.Common.{◌≡◌, ℕ, suc, ◌+◌, ◌^◌, ◌<◌, ◌≤◌, List, [], ◌∷◌, ◌++◌, length, get_or, ◌⊎◌, Bool, true, false, Ok, Some, None, refl, sym, ap, subst, ◌∙◌, length-append, append_assoc, zero-add, inl, inr, arith}
+use Rattle.std.proofs.Common.{◌≡◌, ℕ, ℤ, suc, ◌+◌, ◌-◌, ◌*◌, ◌^◌, ◌<◌, ◌≤◌, List, [], ◌∷◌, ◌++◌, length, get_or, Bool, true, false, Ok, Some, None, refl, sym, ap, subst, ◌∙◌, length-append, append_assoc, zero-add, inl, inr, arith}
 use Rattle.std.specs.Prelude.{All, if◌then◌else◌, nat_eq, nat_lt, option_map}
 use Rattle.std.specs.List.{flat_map, position_or_len}
 use Rattle.std.proofs.Math.Path.{fun_ext}
@@ -8,27 +8,30 @@ use Rattle.std.proofs.lemmas.Bool.Decides.{eqb_tells}
 use Rattle.std.specs.declared.option.Option.{Option}
 use Rattle.std.proofs.lemmas.List.{append-nil, map-append}
 use Rattle.std.proofs.lemmas.List.Concat.{flat_map-append}
-use Rattle.std.proofs.lemmas.List.Elements.{All-append, All-nil, All-push}
+use Rattle.std.proofs.lemmas.List.Elements.{All-append, All-cons, All-nil}
 use Rattle.abc_file_types.specs.Part.{◌>>=◌}
 use Rattle.abc_file_types.proofs.Exact.{bind_ok}
 use Rattle.abc_file_types.specs.declared.code.Instr.{Instr}
 use Rattle.abc_file_types.specs.declared.code.Instr.TheVariants as instrs
-use Rattle.abc_file_types.specs.CodeBytes.{code_len, sized}
+use Rattle.abc_base.specs.Numbers.{number_bytes}
+use Rattle.abc_file_types.specs.Canonical.{s24_bytes}
+use Rattle.abc_file_types.specs.CodeBytes.{code_len, number_len, sized}
+use Rattle.abc_file_types.proofs.Canon.{s24_length}
 use Rattle.abc_file_types.specs.Starts.{starts, size}
 use Rattle.abc_file_types.specs.Targets.{instr_of, instrs_of}
-use Rattle.abc_instr.specs.declared.scan.Jump.{Jump}
+use Rattle.abc_instr.specs.declared.holes.Hole.{Hole}
 use Rattle.abc_instr.specs.declared.scan.Scan.{Scan}
 use Rattle.abc_instr.specs.declared.raw.RawInstr.{RawInstr as Raw}
 use Rattle.abc_instr.specs.declared.raw.RawInstr.TheVariants as raws
 use Rattle.abc_instr.specs.Offsets.{has_targets, raw_len, raw_of, raws_len, raws_sized, AreRaw, IsRaw}
 use Rattle.abc_instr.specs.Marks.{mark_at, marked, moved_at}
-use Rattle.abc_instr.specs.Scanning.{Adds, AreRead, IsJump, IsScan, IsWhole, instrs_in, jump_in, jumps_from, jumps_in, plain_bytes, raws_in, start_in}
+use Rattle.abc_instr.specs.Scanning.{Adds, AreRead, IsHole, IsScan, IsWhole, case_holes, holes_from, holes_in, instrs_in, raw_bytes, raws_in, start_in}
 use Rattle.abc_instr.proofs.Resolved.{instr_set}
 
 -- ---- one instruction
 
 -- The bytes of an instruction without targets are as many as it has.
-same_len : (i : Instr) → has_targets i ≡ false → length (plain_bytes (raws.Same i)) ≡ raw_len (raws.Same i)
+same_len : (i : Instr) → has_targets i ≡ false → length (raw_bytes (raws.Same i)) ≡ raw_len (raws.Same i)
 same_len (instrs.Plain op) e = refl
 same_len (instrs.One op n) e = omega arith
 same_len (instrs.Two op n m) e = omega (arith, length-append {A = ℕ})
@@ -39,25 +42,17 @@ same_len (instrs.Short z) e = omega arith
 same_len (instrs.ScopeObject x) e = refl
 same_len (instrs.Debug kind name reg extra) e = omega (arith, length-append {A = ℕ})
 
-pub plain_len : (i : Raw) → IsRaw i → jump_in i ≡ None → length (plain_bytes i) ≡ raw_len i
-plain_len (raws.Same i) raw e = same_len i raw.1
-plain_len (raws.Branch op z) raw e = absurd cc
-plain_len (raws.Switch z zs) raw e = absurd cc
+cases_len : (zs : List ℤ) → length (flat_map s24_bytes zs) ≡ 3 * length zs
+cases_len [] = refl
+cases_len (z ∷ zs) = omega (arith, s24_length z, length-append (s24_bytes z) (flat_map s24_bytes zs), cases_len zs)
 
--- an instruction with targets is kept itself, and nothing is put
-pub record IsKept (i j : Raw) : Type 0 where
-  pub same : i ≡ j
-  pub none : plain_bytes i ≡ []
-
-pub kept : (i j : Raw) → Some j ≡ jump_in i → IsKept i j
-kept (raws.Same i) j e = absurd cc
-kept (raws.Branch op z) j e = record { same = cc; none = refl }
-kept (raws.Switch z zs) j e = record { same = cc; none = refl }
-
--- so it comes to the jumps
-pub jump_kept : (i j : Raw) (b b2 h h2 n n2 m end : ℕ) (old new : List Jump) → Some j ≡ jump_in i → b ≡ b2 → h ≡ h2 → n ≡ n2 → end ≡ m + raw_len j
-    → new ≡ old ++ record { instr = j; before = b; here = h; next = n; moved_here = m; moved_next = end } ∷ [] → new ≡ old ++ jumps_in (jump_in i) b2 h2 n2 m (m + raw_len i)
-jump_kept i j b b2 h h2 n n2 m end old new k eb eh en ee e = let same = (kept i j k).same in e ∙ rw (← k, same, eb, eh, en, ee) refl
+pub bytes_len : (i : Raw) → IsRaw i → length (raw_bytes i) ≡ raw_len i
+bytes_len (raws.Same i) raw = same_len i raw.1
+bytes_len (raws.Branch op z) raw = omega (arith, s24_length z)
+bytes_len (raws.Switch z zs) raw =
+    let many = number_bytes (length zs - 1) in
+    let cases = flat_map s24_bytes zs in
+    omega (arith, s24_length z, cases_len zs, length-append (s24_bytes z) (many ++ cases), length-append many cases)
 
 -- ---- the marks
 
@@ -116,67 +111,78 @@ all_marked h m (y ∷ xs) p some =
 
 -- ---- one more
 
-abbrev bytes_in : List (Raw × ℕ) → List ℕ
-bytes_in xs = flat_map plain_bytes (instrs_in xs)
+abbrev pub bytes_in : List (Raw × ℕ) → List ℕ
+bytes_in xs = flat_map raw_bytes (instrs_in xs)
 
-jumps_push : (b h m : ℕ) (xs : List (Raw × ℕ)) (x : Raw × ℕ)
-    → jumps_from b h m (xs ++ x ∷ []) ≡ jumps_from b h m xs ++ jumps_in (jump_in x.0) (b + length (bytes_in xs)) (h + size xs) (h + size xs + x.1) (m + raws_len (instrs_in xs)) (m + raws_len (instrs_in xs) + raw_len x.0)
-jumps_push b h m [] x = rw (zero_more b, zero_more h, zero_more m) (append-nil (jumps_in (jump_in x.0) b h (h + x.1) m (m + raw_len x.0))) where
+pub all_bytes_len : (xs : List (Raw × ℕ)) → AreRaw (instrs_in xs) → length (bytes_in xs) ≡ raws_len (instrs_in xs)
+all_bytes_len [] raw = refl
+all_bytes_len (x ∷ xs) raw = omega (arith, bytes_len x.0 raw.0, all_bytes_len xs raw.1, length-append (raw_bytes x.0) (bytes_in xs))
+
+-- so many canonical bytes there are
+pub code_len_is : (xs : List (Raw × ℕ)) (scan : Scan) → AreRaw (instrs_in xs) → IsScan xs scan → length scan.code.items ≡ raws_len (instrs_in xs)
+code_len_is xs scan raw is = ap length is.code ∙ all_bytes_len xs raw
+
+holes_push : (h m : ℕ) (xs : List (Raw × ℕ)) (x : Raw × ℕ) → holes_from h m (xs ++ x ∷ []) ≡ holes_from h m xs ++ holes_in x.0 (h + size xs) (h + size xs + x.1) (m + raws_len (instrs_in xs))
+holes_push h m [] x = rw (zero_more h, zero_more m) (append-nil (holes_in x.0 h (h + x.1) m)) where
   zero_more : (n : ℕ) → n + 0 ≡ n
   zero_more n = omega arith
-jumps_push b h m (y ∷ xs) x =
-    let p = length (plain_bytes y.0) in
-    let one = jumps_in (jump_in y.0) b h (h + y.1) m (m + raw_len y.0) in
-    let e1 : b + p + length (bytes_in xs) ≡ b + length (plain_bytes y.0 ++ bytes_in xs) = omega (arith, length-append (plain_bytes y.0) (bytes_in xs)) in
-    let e2 : h + y.1 + size xs ≡ h + (y.1 + size xs) = omega arith in
-    let e3 : m + raw_len y.0 + raws_len (instrs_in xs) ≡ m + (raw_len y.0 + raws_len (instrs_in xs)) = omega arith in
-    let g = rw (e1, e2, e3) at (jumps_push (b + p) (h + y.1) (m + raw_len y.0) xs x) in
-    ap (λ (l : List Jump). one ++ l) g ∙ sym (append_assoc one (jumps_from (b + p) (h + y.1) (m + raw_len y.0) xs) _)
+holes_push h m (y ∷ xs) x =
+    let one = holes_in y.0 h (h + y.1) m in
+    let e1 : h + y.1 + size xs ≡ h + (y.1 + size xs) = omega arith in
+    let e2 : m + raw_len y.0 + raws_len (instrs_in xs) ≡ m + (raw_len y.0 + raws_len (instrs_in xs)) = omega arith in
+    let g = rw (e1, e2) at (holes_push (h + y.1) (m + raw_len y.0) xs x) in
+    ap (λ (l : List Hole). one ++ l) g ∙ sym (append_assoc one (holes_from (h + y.1) (m + raw_len y.0) xs) _)
 
 -- An instruction x of n bytes came to the scan of some others, whose end was marked before.
-pub scan_push : (xs : List (Raw × ℕ)) (x : Raw) (n here moved : ℕ) (old mid new : Scan) → All (λ y. 0 < y.1) xs → here ≡ size xs → moved ≡ raws_len (instrs_in xs) → IsScan xs old
-    → ((p : ℕ) → mark_at mid.marks p ≡ marked here moved (mark_at old.marks) p) → mid.plain.items ≡ old.plain.items → mid.jumps.items ≡ old.jumps.items
-    → new.marks ≡ mid.marks → Adds x n here moved mid new → IsScan (xs ++ (x, n) ∷ []) new
-scan_push xs x n here moved old mid new some h m is marks plain jumps same adds =
+pub scan_push : (xs : List (Raw × ℕ)) (x : Raw) (n here : ℕ) (old mid new : Scan) → All (λ y. 0 < y.1) xs → AreRaw (instrs_in xs) → here ≡ size xs → IsScan xs old
+    → ((p : ℕ) → mark_at mid.marks p ≡ marked here (length old.code.items) (mark_at old.marks) p) → mid.code.items ≡ old.code.items → mid.holes.items ≡ old.holes.items
+    → Adds x n here mid new → IsScan (xs ++ (x, n) ∷ []) new
+scan_push xs x n here old mid new some raw h is marks code holes adds =
     let all : instrs_in (xs ++ (x, n) ∷ []) ≡ instrs_in xs ++ x ∷ [] = map-append (λ (y : Raw × ℕ). y.0) xs ((x, n) ∷ []) in
-    let bytes : bytes_in (xs ++ (x, n) ∷ []) ≡ bytes_in xs ++ plain_bytes x = ap (flat_map plain_bytes) all ∙ flat_map-append plain_bytes (instrs_in xs) (x ∷ []) ∙ ap (λ (l : List ℕ). bytes_in xs ++ l) (append-nil (plain_bytes x)) in
+    let bytes : bytes_in (xs ++ (x, n) ∷ []) ≡ bytes_in xs ++ raw_bytes x = ap (flat_map raw_bytes) all ∙ flat_map-append raw_bytes (instrs_in xs) (x ∷ []) ∙ ap (λ (l : List ℕ). bytes_in xs ++ l) (append-nil (raw_bytes x)) in
+    let len = code_len_is xs old raw is in
     record {
-      marks = λ p. ap (λ (m : List ℕ). mark_at m p) same ∙ marks p ∙ rw (is.marks p, h, m) (simp zero-add at (sym (start_push 0 0 xs (x, n) p some)));
-      plain = adds.plain ∙ ap (λ (l : List ℕ). l ++ plain_bytes x) (plain ∙ is.plain) ∙ sym bytes;
-      jumps = adds.jumps ∙ rw (jumps, is.jumps, plain, is.plain, h, m) (simp zero-add at (sym (jumps_push 0 0 0 xs (x, n))));
+      marks = λ p. ap (λ (m : List ℕ). mark_at m p) adds.marks ∙ marks p ∙ rw (len, is.marks p, h) (simp zero-add at (sym (start_push 0 0 xs (x, n) p some)));
+      code = adds.code ∙ ap (λ (l : List ℕ). l ++ raw_bytes x) (code ∙ is.code) ∙ sym bytes;
+      holes = adds.holes ∙ rw (holes, is.holes, code, len, h) (simp zero-add at (sym (holes_push 0 0 xs (x, n))));
     }
 
 -- Once the end is marked, the scan is whole.
-pub scan_whole : (xs : List (Raw × ℕ)) (here moved : ℕ) (old new : Scan) → All (λ y. 0 < y.1) xs → here ≡ size xs → moved ≡ raws_len (instrs_in xs) → IsScan xs old
-    → ((p : ℕ) → mark_at new.marks p ≡ marked here moved (mark_at old.marks) p) → new.plain.items ≡ old.plain.items → new.jumps.items ≡ old.jumps.items → new.len ≡ moved → IsWhole xs new
-scan_whole xs here moved old new some h m is marks plain jumps len = record {
-  marks = fun_ext (λ p. marks p ∙ rw (is.marks p, h, m) (simp zero-add at (all_marked 0 0 xs p some)));
-  plain = plain ∙ is.plain;
-  jumps = jumps ∙ is.jumps;
-  len = len ∙ m;
+pub scan_whole : (xs : List (Raw × ℕ)) (here : ℕ) (old new : Scan) → All (λ y. 0 < y.1) xs → AreRaw (instrs_in xs) → here ≡ size xs → IsScan xs old
+    → ((p : ℕ) → mark_at new.marks p ≡ marked here (length old.code.items) (mark_at old.marks) p) → new.code.items ≡ old.code.items → new.holes.items ≡ old.holes.items → IsWhole xs new
+scan_whole xs here old new some raw h is marks code holes = let len = code_len_is xs old raw is in record {
+  marks = fun_ext (λ p. marks p ∙ rw (len, is.marks p, h) (simp zero-add at (all_marked 0 0 xs p some)));
+  code = code ∙ is.code;
+  holes = holes ∙ is.holes;
 }
 
 -- ---- what a scan says
 
-one_or_none : (i : Raw) → (jump_in i ≡ Some i) ⊎ (jump_in i ≡ None)
-one_or_none (raws.Same i) = inr refl
-one_or_none (raws.Branch op z) = inl refl
-one_or_none (raws.Switch z zs) = inl refl
+case_holes_ok : (n next at base moved : ℕ) (zs : List ℤ) → at + 3 * length zs ≤ n → base ≤ 2 ^ 24 → moved < 2 ^ 23 → All (IsHole n) (case_holes next at base moved zs)
+case_holes_ok n next at base moved [] within small short = All-nil (IsHole n)
+case_holes_ok n next at base moved (z ∷ zs) within small short =
+    All-cons (IsHole n) _ (case_holes next (at + 3) base moved zs) (record { within = omega arith; base = small; moved = short }) (case_holes_ok n next (at + 3) base moved zs (omega arith) small short)
 
-jump_ok : (i : Raw) (b h n m : ℕ) → h ≤ 2 ^ 24 → n ≤ 2 ^ 24 → m + raw_len i < 2 ^ 23 → All IsJump (jumps_in (jump_in i) b h n m (m + raw_len i))
-jump_ok i b h n m here next short = elim (one_or_none i) [
-  | inl some ↦ rw some (All-push IsJump [] _ (All-nil IsJump) (record { here = here; next = next; moved_here = omega arith; moved_next = short }))
-  | inr none ↦ rw none (All-nil IsJump)
-]
+holes_in_ok : (n : ℕ) (i : Raw) (here next moved : ℕ) → here ≤ 2 ^ 24 → next ≤ 2 ^ 24 → moved + raw_len i ≤ n → n < 2 ^ 23 → All (IsHole n) (holes_in i here next moved)
+holes_in_ok n (raws.Same i) here next moved near far within small = All-nil (IsHole n)
+holes_in_ok n (raws.Branch op z) here next moved near far within small = All-cons (IsHole n) _ [] (record { within = omega arith; base = far; moved = omega arith }) (All-nil (IsHole n))
+holes_in_ok n (raws.Switch z zs) here next moved near far within small =
+    All-cons (IsHole n) _ (case_holes next (moved + 4 + number_len (length zs - 1)) here moved zs) (record { within = omega arith; base = near; moved = omega arith })
+    (case_holes_ok n next (moved + 4 + number_len (length zs - 1)) here moved zs (omega arith) near (omega arith))
 
-jumps_ok : (xs : List (Raw × ℕ)) (b h m : ℕ) → h + size xs ≤ 2 ^ 24 → m + raws_len (instrs_in xs) < 2 ^ 23 → All IsJump (jumps_from b h m xs)
-jumps_ok [] b h m near short = All-nil IsJump
-jumps_ok (x ∷ xs) b h m near short =
-    All-append IsJump (jumps_in (jump_in x.0) b h (h + x.1) m (m + raw_len x.0)) (jumps_from (b + length (plain_bytes x.0)) (h + x.1) (m + raw_len x.0) xs)
-    (jump_ok x.0 b h (h + x.1) m (omega arith) (omega arith) (omega arith)) (jumps_ok xs (b + length (plain_bytes x.0)) (h + x.1) (m + raw_len x.0) (omega arith) (omega arith))
+holes_ok : (n : ℕ) (xs : List (Raw × ℕ)) (h m : ℕ) → h + size xs ≤ 2 ^ 24 → m + raws_len (instrs_in xs) ≤ n → n < 2 ^ 23 → All (IsHole n) (holes_from h m xs)
+holes_ok n [] h m near within small = All-nil (IsHole n)
+holes_ok n (x ∷ xs) h m near within small =
+    All-append (IsHole n) (holes_in x.0 h (h + x.1) m) (holes_from (h + x.1) (m + raw_len x.0) xs)
+    (holes_in_ok n x.0 h (h + x.1) m (omega arith) (omega arith) (omega arith) small) (holes_ok n xs (h + x.1) (m + raw_len x.0) (omega arith) (omega arith) small)
 
-pub jumps_are : (n : ℕ) (xs : List (Raw × ℕ)) (scan : Scan) → n < 2 ^ 23 → IsWhole xs scan → AreRead n xs → All IsJump scan.jumps.items
-jumps_are n xs scan small is read = rw is.jumps (jumps_ok xs 0 0 0 (omega (arith, read.size)) (omega (arith, read.few)))
+pub whole_len : (xs : List (Raw × ℕ)) (scan : Scan) → AreRaw (instrs_in xs) → IsWhole xs scan → length scan.code.items ≡ raws_len (instrs_in xs)
+whole_len xs scan raw is = ap length is.code ∙ all_bytes_len xs raw
+
+pub holes_are : (n : ℕ) (xs : List (Raw × ℕ)) (scan : Scan) → n < 2 ^ 23 → IsWhole xs scan → AreRead n xs → All (IsHole (length scan.code.items)) scan.holes.items
+holes_are n xs scan small is read =
+    let len = whole_len xs scan read.raw is in
+    rw (is.holes, len) (holes_ok (raws_len (instrs_in xs)) xs 0 0 (omega (arith, read.size)) (omega arith) (omega (arith, read.few)))
 
 -- The instructions with their targets are as long as they were.
 pub record AreAlike (is : List Raw) (js : List Instr) : Type 0 where

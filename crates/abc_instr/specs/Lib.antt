@@ -1,6 +1,7 @@
 pub mod Offsets
 pub mod Resolving
 pub mod Scanning
+pub mod Runs
 pub mod Reading
 pub mod Fronts
 pub mod Marks

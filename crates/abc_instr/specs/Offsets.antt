@@ -1,9 +1,10 @@
 -- Instructions between reading and resolving, as they are spelled: with offsets in bytes.
-use Rattle.std.specs.Prelude.{◌≡◌, ℕ, ◌+◌, ◌-◌, ◌*◌, ◌^◌, ◌<◌, ◌≤◌, Bool, true, false, List, [], ◌∷◌, length, Some, Ok, Err}
+use Rattle.std.specs.Prelude.{◌≡◌, ℕ, ◌+◌, ◌-◌, ◌*◌, ◌^◌, ◌<◌, ◌≤◌, All, Bool, true, false, List, [], ◌∷◌, length, Some, Ok, Err}
 use Rattle.std.specs.declared.result.Result.{Result}
 use Rattle.abc_file_types.specs.declared.code.Instr.{Instr}
 use Rattle.abc_file_types.specs.declared.code.Instr.TheVariants as instrs
 use Rattle.abc_file_types.specs.declared.opcodes.Form.TheVariants as forms
+use Rattle.abc_file_types.specs.Canonical.{FitsS24}
 use Rattle.abc_file_types.specs.CodeBytes.{instr_len, number_len}
 use Rattle.abc_file_types.specs.Instructions.{RawInstr, Same, Branch, Switch}
 use Rattle.abc_file_types.specs.Opcodes.{form_at}
@@ -47,8 +48,8 @@ has_targets (instrs.Debug kind name reg extra) = false
 -- Some bytes spell it.
 abbrev pub IsRaw : Raw → Type 0
 IsRaw (raws.Same i) = CanSpell 0 i × (has_targets i ≡ false)
-IsRaw (raws.Branch op z) = form_at op ≡ Some forms.Branch
-IsRaw (raws.Switch z zs) = (0 < length zs) × (length zs ≤ 2 ^ 30)
+IsRaw (raws.Branch op z) = (form_at op ≡ Some forms.Branch) × FitsS24 z
+IsRaw (raws.Switch z zs) = (0 < length zs) × (length zs ≤ 2 ^ 30) × FitsS24 z × All FitsS24 zs
 
 abbrev pub AreRaw : List Raw → Type 0
 AreRaw [] = Unit {0}

@@ -3,6 +3,7 @@
 
 mod front;
 mod guesses;
+mod holes;
 mod laws;
 mod marks;
 mod pass;
@@ -14,9 +15,9 @@ mod raw;
 mod read;
 mod reading;
 mod resolve;
+mod run;
 mod scan;
 mod starts;
-mod weave;
 
 pub use abc_file_types::{Code, Form, Instr, OpInfo, Pool, code_len, mnemonic, opcode};
 pub use laws::code_law;

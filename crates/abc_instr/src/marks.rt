@@ -11,6 +11,9 @@ const UNMARKED: u32 = u32::MAX;
 /// How many places the table gets at once, at least.
 const MORE: usize = 64;
 
+/// Places without marks, as the table gets them at once.
+const BLANK: [u32; 64] = [UNMARKED; 64];
+
 /// Where the instructions of some code start in its canonical bytes, by the places where they start in the bytes as they
 /// were read.
 #[derive(Debug, Drop)]
@@ -29,6 +32,17 @@ impl Model for Marks {
 
     // Code is shorter than 2^23 bytes.
     ghost invariant = { λ m. (p n : ℕ) → mark_at m.table.items p ≡ Some n → n < 2 ^ 23 };
+}
+
+/// Adds places without marks, so that the table has this one.
+fn push_blank(table: &mut Vec<u32>, place: usize) -> Result<(), NoMemory>
+    ensures same { OnOk result ((p : ℕ) → mark_at table.new.items p ≡ mark_at table.old.items p) }
+    ensures long { OnOk result (place < length table.new.items) }
+{
+    while table.len() <= place {
+        table.extend_from_slice(&BLANK)?;
+    }
+    Ok(())
 }
 
 impl Marks {
@@ -61,6 +75,18 @@ impl Marks {
         Ok(())
     }
 
+    /// Adds places without marks, so that the table has those below this one.
+    #[inline(always)]
+    pub(crate) fn reach(&mut self, end: usize) -> Result<(), NoMemory>
+        ensures same { OnOk result ((p : ℕ) → mark_at self.new p ≡ mark_at self.old p) }
+        ensures long { OnOk result (end ≤ length self.new) }
+    {
+        if end > self.table.len() {
+            self.grow(end)?;
+        }
+        Ok(())
+    }
+
     /// Marks a place.
     #[inline(always)]
     #[tactic(auto, using(crate::proofs::Marking::one_more, crate::proofs::Marking::stays_small))]
@@ -79,10 +105,11 @@ impl Marks {
     /// Marks a place of the table.
     #[inline(always)]
     #[tactic(auto, using(crate::proofs::Marking::one_more, crate::proofs::Marking::stays_small))]
-    fn put(&mut self, place: usize, moved: u32)
+    pub(crate) fn put(&mut self, place: usize, moved: u32)
         requires place { place < length self.old }
         requires moved { moved < 2 ^ 23 }
-        ensures { (p : ℕ) → mark_at self.new p ≡ marked place moved (mark_at self.old) p }
+        ensures marks { (p : ℕ) → mark_at self.new p ≡ marked place moved (mark_at self.old) p }
+        ensures long { length self.new ≡ length self.old }
     {
         self.table[place] = moved;
     }

@@ -7,8 +7,7 @@ ghost use Rattle.abc_instr.specs.Marks.{mark_at, moved_in};
 
 use crate::read::read_length;
 use crate::resolve::Missed;
-use crate::scan::{Scan, scan_code};
-use crate::weave::put_scan;
+use crate::scan::{Scan, put_scan, scan_code};
 use abc_base::Source;
 use abc_file_types::Reason;
 use abc_varint::{ReadError, Window};

@@ -1,14 +1,13 @@
 //! Code on its way to its bytes: those of the instructions without targets, and where those with some stand among them.
-ghost use Rattle.std.specs.Prelude.{◌≡◌, ◌<◌, ◌+◌, ◌^◌, ◌++◌, ◌∷◌, [], All, List, ℕ, length, IfOk, OnOk, OnErr};
+ghost use Rattle.std.specs.Prelude.{◌≡◌, ◌<◌, ◌+◌, ◌^◌, ◌++◌, ◌∷◌, [], All, List, ℕ, length, take, drop, ◌-◌, IfOk, OnOk, OnErr};
 ghost use Rattle.abc_instr.specs.Offsets.{has_targets as has_some};
 ghost use Rattle.abc_instr.specs.Pieces.{ArePieces, filled, free_bytes, gap_bytes, gaps_in};
 ghost use Rattle.abc_file_types.specs.Code.{code_listing};
 ghost use Rattle.abc_file_types.specs.CodeBytes.{canonical_starts, code_bytes, instr_len as len_of};
 ghost use Rattle.abc_file_types.specs.Ready.{IsReady};
-ghost use Rattle.abc_varint.specs.Puts.{Puts};
+ghost use Rattle.abc_varint.specs.Puts.{Puts, PutsWhole};
 
 use crate::put::{put_aimed, put_free, short_len};
-use crate::weave::put_range;
 use abc_base::{NoMemory, Table};
 use abc_file_types::Instr;
 use abc_varint::put_u30;
@@ -119,6 +118,17 @@ fn put_gap(
 {
     let instr = code.get(gap.index);
     put_aimed(instr, starts, starts[gap.index], starts[gap.index + 1], out)
+}
+
+/// Appends the bytes from one position to another, as far as there are some.
+#[inline(always)]
+fn put_range(bytes: &[u8], from: usize, to: usize, out: &mut Vec<u8>) -> Result<(), NoMemory>
+    ensures { PutsWhole out.old.items out.new.items result (take (to - from) (drop from bytes.now)) }
+{
+    let to = to.min(bytes.len());
+    let from = from.min(to);
+    out.extend_from_slice(&bytes[from..to])?;
+    Ok(())
 }
 
 /// Appends the bytes of the instructions without targets, with those of the gaps between them.

@@ -1,5 +1,6 @@
-ghost use Rattle.std.specs.Prelude.{◌≡◌, ◌≤◌, ◌<◌, ◌*◌, ◌^◌, None, Some, IfOk, OnOk, length};
+ghost use Rattle.std.specs.Prelude.{All, ◌≡◌, ◌≤◌, ◌<◌, ◌*◌, ◌^◌, None, Some, IfOk, OnOk, length};
 ghost use Rattle.std.specs.Int.{w16, cast_unsigned};
+ghost use Rattle.abc_file_types.specs.Canonical.{FitsS24};
 ghost use Rattle.abc_file_types.specs.Ends.{blamed};
 ghost use Rattle.abc_file_types.specs.Lists.{times};
 ghost use Rattle.abc_file_types.specs.Numbers.{s24};
@@ -68,6 +69,7 @@ fn read_signed_short<S: Source>(w: &mut Window, source: &mut S) -> Result<i16, R
 /// An offset in bytes.
 fn read_offset<S: Source>(w: &mut Window, source: &mut S) -> Result<i32, ReadError>
     ensures value { ReadsPart S.left S.faults s24 w.old source.old w.new source.new result }
+    ensures fits { IfOk result FitsS24 }
     ensures passes { OnOk result (GoesOver 3 w.old w.new) }
 {
     let offset = read_s24(w, source)?;
@@ -84,6 +86,7 @@ fn read_offsets<S: Source>(
     requires { w.old.kept ≡ None }
     ensures value { ReadsPart S.left S.faults (times count s24) w.old source.old w.new source.new result }
     ensures count { IfOk result (λ xs. length xs ≡ count) }
+    ensures fits { IfOk result (λ xs. All FitsS24 xs) }
     ensures passes { OnOk result (w.old.place ≤ w.old.end → GoesOver (3 * count) w.old w.new) }
 {
     let mut offsets = Table::new(alloc);

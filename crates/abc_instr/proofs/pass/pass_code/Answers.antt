@@ -1,4 +1,4 @@
-use Rattle.std.proofs.Common.{◌∙◌, arith}
+use Rattle.std.proofs.Common.{◌∙◌, ap, arith}
 use Rattle.std.proofs.lemmas.Result.{err_from_is_err_and}
 use Rattle.abc_file_types.specs.Part.{refusal}
 use Rattle.abc_file_types.specs.declared.reason.Reason.TheVariants as reasons
@@ -8,8 +8,9 @@ use Rattle.abc_varint.specs.declared.error.ReadError.TheVariants as errors
 use Rattle.abc_varint.specs.Reads.{known}
 use Rattle.abc_varint.proofs.Inputs.{known_is}
 use Rattle.abc_varint.proofs.Loop.{other_err}
+use Rattle.abc_instr.specs.Marks.{mark_at}
 use Rattle.abc_instr.specs.Scanning.{raws_in}
-use Rattle.abc_instr.proofs.Scanned.{jumps_are}
+use Rattle.abc_instr.proofs.Scanned.{holes_are}
 use Rattle.abc_instr.proofs.Passing.{code_found, code_missed, is_put, is_missed, length_fails, pieces_fail, raws_some, raws_size}
 use Rattle.abc_instr.proofs.pass.pass_code.Goals as goal
 
@@ -35,12 +36,12 @@ returns-in_err-scan_code g c =
     )
 
 pub put_scan-requires : goal.put_scan-requires
-put_scan-requires g c = let v = c.in_ok-scan_code.ensures.value in jumps_are c.in_ok-length.length v.0 c.scan_code.new.scan c.in_ok-length.ensures.small v.1 v.2
+put_scan-requires g c = let v = c.in_ok-scan_code.ensures.value in holes_are c.in_ok-length.length v.0 c.scan_code.new.scan c.in_ok-length.ensures.small v.1 v.2
 
 pub overflow_add-result : goal.overflow_add-result
 overflow_add-result g c =
     let v = c.in_ok-scan_code.ensures.value in
-    let h = rw c.in-Err-Target.field-0-is at c.in-Err-Target.ensures in
+    let h = rw c.in-Err-Target.field-0-is at c.in-Err-Target.ensures.bytes in
     let d = refusal c.in-Err-Target.at reasons.Target in
     let within = missed_within (starts 0 (raws_in v.0)) 0 (raws_in v.0) d (raws_some v.0 v.2.some) (is_missed c.in_ok-length.length v.0 c.scan_code.new.scan v.1 v.2 c.args.out.now.items d h) in
     omega (arith, within, raws_size v.0, v.2.size, c.in_ok-length.ensures.small, c.place-first.ensures.bound)
@@ -50,7 +51,7 @@ returns-in-Ok g c =
     let n = c.in_ok-length.length in
     let length = c.in_ok-length.ensures.value in
     let v = c.in_ok-scan_code.ensures.value in
-    let p = is_put n v.0 c.scan_code.new.scan v.1 v.2 c.args.out.now.items c.put_scan.new.out.items c.in-Ok.ensures in (
+    let p = is_put n v.0 c.scan_code.new.scan v.1 v.2 c.args.out.now.items c.put_scan.new.out.items c.in-Ok.ensures.bytes in (
       (
         length.0.0,
         v.3.1,
@@ -63,7 +64,7 @@ returns-in-Ok g c =
                 value = record { instrs = p.instrs; offsets = starts 0 (raws_in v.0) };
                 read = code_found n _ _ _ v.0 p.instrs a.1 b.1 p.found;
                 bytes = p.bytes;
-                tells = p.marks;
+                tells = ap mark_at c.put_scan.ensures.marks ∙ p.marks;
               },
             ),
       ),
@@ -78,7 +79,7 @@ returns-in-Err-Target g c =
     let n = c.in_ok-length.length in
     let length = c.in_ok-length.ensures.value in
     let v = c.in_ok-scan_code.ensures.value in
-    let h = rw c.in-Err-Target.field-0-is at c.in-Err-Target.ensures in
+    let h = rw c.in-Err-Target.field-0-is at c.in-Err-Target.ensures.bytes in
     let d = refusal c.in-Err-Target.at reasons.Target in
     let m = is_missed n v.0 c.scan_code.new.scan v.1 v.2 c.args.out.now.items d h in (
       (λ k.

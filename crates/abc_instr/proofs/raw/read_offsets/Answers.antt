@@ -3,6 +3,8 @@ use Rattle.std.proofs.Common.{◌-◌, ◌+◌, ◌∷◌, [], length-append, ar
 use Rattle.std.proofs.lemmas.Int.{to_z-of_z}
 use Rattle.std.proofs.lemmas.Result.{err_from_is_err_and}
 use Rattle.std.specs.Int.{w32}
+use Rattle.std.proofs.lemmas.List.Elements.{All-push}
+use Rattle.abc_file_types.specs.Canonical.{FitsS24}
 use Rattle.abc_file_types.specs.Numbers.{s24}
 use Rattle.abc_varint.specs.declared.error.ReadError.TheVariants as errors
 use Rattle.abc_varint.proofs.Loop.{goes_on, ends, other_err}
@@ -33,5 +35,6 @@ loop-preserved g c =
           (goes_on s24 c.args.count (c.args.count - c.loop.counter) (c.args.count - (c.loop.counter + 1)) c.loop.offsets _ _ _ _ _ _ _ (omega arith) before.going e.0);
       later = omega (arith, before.later, e.2);
       count = rw (c.in_ok-push.ensures.ok, bits) (omega (arith, length-append c.loop.offsets (c.in_ok-offset.offset ∷ []), before.count));
+      fits = rw (c.in_ok-push.ensures.ok, bits) (All-push FitsS24 c.loop.offsets c.in_ok-offset.offset before.fits c.in_ok-offset.ensures.fits);
       passes = λ h. let p = before.passes h in (omega (arith, p.0, now.0), omega (arith, now.1, before.going.ends_at));
     }

@@ -1,17 +1,10 @@
-use Rattle.std.proofs.Common.{◌≡◌, ℕ, ◌-◌, ◌<◌, ◌++◌, ◌∷◌, [], refl, arith}
-use Rattle.std.proofs.lemmas.List.{map-append}
-use Rattle.std.proofs.lemmas.List.Elements.{All-nil, All-push}
+use Rattle.std.proofs.Common.{◌+◌, ◌-◌, ◌<◌, ◌++◌, ◌∷◌, [], length, length-append, ap, refl, arith}
 use Rattle.std.proofs.lemmas.Result.{err_from_is_err_and}
-use Rattle.abc_file_types.specs.Ends.{blamed}
-use Rattle.abc_varint.proofs.Fill.{fill_starts, fill_goes_on, fill_ends, fill_done}
-use Rattle.abc_instr.specs.declared.raw.RawInstr.{RawInstr as Raw}
-use Rattle.abc_file_types.specs.Instructions.{instruction, pieces}
-use Rattle.abc_file_types.proofs.CodeParts.{instruction-exact, instruction-some}
-use Rattle.abc_file_types.proofs.Resolving.{size-push}
-use Rattle.abc_instr.specs.Offsets.{raw_of}
-use Rattle.abc_instr.specs.Scanning.{instrs_in, raws_in}
-use Rattle.abc_instr.proofs.Resolved.{raw_push, raws_len-push}
-use Rattle.abc_instr.proofs.Scanned.{scan_push}
+use Rattle.abc_varint.specs.View.{held}
+use Rattle.abc_instr.specs.Scanning.{raw_bytes}
+use Rattle.abc_instr.proofs.Running.{scan_run}
+use Rattle.abc_instr.proofs.Scanned.{bytes_len, scan_push}
+use Rattle.abc_instr.proofs.Until.{until_done, until_ends, until_one, until_read, until_run, until_starts}
 use Rattle.abc_instr.proofs.scan.scan_until.Goals as goal
 
 pub loop-init : goal.loop-init
@@ -19,75 +12,87 @@ loop-init g c =
     let e = c.begin.ensures in (
       [],
       record {
-        scan = record { marks = e.marks; plain = e.plain; jumps = e.jumps };
-        filling = fill_starts (blamed instruction) c.args.byte_count c.args.w.now (g.S.Source.left c.args.source.now) c.requires.fresh c.requires.end;
-        some = All-nil (λ (x : Raw × ℕ). 0 < x.1);
-        raw = tt;
-        moved = refl;
-        size = omega arith;
-        few = omega arith;
-        room = omega (arith, c.place-first.ensures.is, c.place-first.ensures.bound);
-        within = omega arith;
+        scan = record { marks = e.marks; code = e.code; holes = e.holes };
+        so_far = until_starts c.args.byte_count c.args.w.now (g.S.Source.left c.args.source.now) c.requires.fresh c.requires.end (omega (arith, c.place-first.ensures.is, c.place-first.ensures.bound));
+        few = omega (arith, ap length e.code);
+        count = omega arith;
         later = omega arith;
       },
     )
 
 pub loop-preserved : goal.loop-preserved
 loop-preserved g c =
-    let xs = c.loop.invariant.0 in
+    let n = c.args.byte_count in
+    let first = c.args.w.now.place in
+    let w = c.loop.w in
+    let w2 = c.pass_run.new.w in
+    let w3 = c.pass_next.new.w in
+    let s0 = g.S.Source.left c.args.source.now in
+    let s = g.S.Source.left c.loop.source in
     let inv = c.loop.invariant.1 in
-    let step = c.in_ok-moved.ensures.value in
+    let xs = c.loop.invariant.0 in
+    let r = c.in_ok-pass_run.ensures.run in
+    let ys = r.run.xs in
+    let u = until_run n xs c.args.w.now s0 w s inv.so_far ys r.count w2 r.run.spelled r.run.size r.ready r.is in
+    let scanned = scan_run xs (held w) (c.place.result - c.place-first.result) r.count c.loop.scan c.pass_run.new.self inv.so_far.some inv.so_far.raw (omega (arith, inv.so_far.size, c.place.ensures.is, c.place-first.ensures.is)) inv.scan r.run r.code in
+    let step = c.in_ok-pass_next.ensures.value in
     let x = step.instr in
-    let n = c.pass_next.new.w.place - c.loop.w.place in
-    let here = c.loop.w.place - c.args.w.now.place in
-    let all : instrs_in (xs ++ (x, n) ∷ []) ≡ instrs_in xs ++ x ∷ [] = map-append (λ (y : Raw × ℕ). y.0) xs ((x, n) ∷ []) in
-    let raws : raws_in (xs ++ (x, n) ∷ []) ≡ raws_in xs ++ (raw_of x, n) ∷ [] = map-append (λ (y : Raw × ℕ). (raw_of y.0, y.1)) xs ((x, n) ∷ []) in (
-      xs ++ (x, n) ∷ [],
+    let m = w3.place - w2.place in
+    let before : w2.place < first + n = omega (arith, c.if-here-byte_count.false, c.place-in-loop.ensures.is, c.place-first.ensures.is, u.size) in (
+      (xs ++ ys) ++ (x, m) ∷ [],
       record {
-        scan = scan_push xs x n here c.loop.moved c.loop.scan (record c.loop.scan { marks = c.set.new.self }) c.pass_next.new.self inv.some (omega (arith, inv.size)) inv.moved inv.scan (rw (← c.place-first.ensures.is, ← c.place.ensures.is) c.in_ok-set.ensures) refl refl step.marks (rw c.place-first.ensures.is at step.adds);
-        filling = rw raws (fill_goes_on (blamed instruction) c.args.byte_count c.loop.counter (raws_in xs) _ _ _ _ _ _ _ instruction-exact instruction-some inv.room c.loop-test.true
-            (omega (arith, c.if-here-byte_count.false, c.place.ensures.is, c.place-first.ensures.is, inv.size)) inv.filling step.says_so);
-        some = All-push (λ (p : Raw × ℕ). 0 < p.1) xs (x, n) inv.some (omega (arith, step.moves));
-        raw = rw all (raw_push (instrs_in xs) x inv.raw step.raw);
-        moved = rw all (omega (arith, step.end_is, inv.moved, raws_len-push (instrs_in xs) x));
-        size = omega (arith, inv.size, size-push xs (x, n), step.moves);
-        few = omega (arith, step.end_is, inv.few, step.passes.0);
-        room = step.room;
-        within = omega (arith, step.passes.1, inv.filling.end);
-        later = omega (arith, inv.later, c.in_ok-moved.ensures.later);
+        scan = scan_push (xs ++ ys) x m (w2.place - first) c.pass_run.new.self (record c.pass_run.new.self { marks = c.set.new.self }) c.pass_next.new.self u.some u.raw (omega (arith, u.size)) scanned
+            (rw (← c.place-first.ensures.is, ← c.place-in-loop.ensures.is, ← c.len-moved.ensures) c.in_ok-set.ensures) refl refl (rw c.place-first.ensures.is at step.adds);
+        so_far = until_one n (xs ++ ys) c.args.w.now s0 w2 s u x w3 (g.S.Source.left c.pass_next.new.source) before step.moves step.passes step.room step.raw step.says_so;
+        few = omega (arith, inv.few, c.in_ok-pass_run.ensures.few, step.passes.0, ap length step.adds.code, length-append c.pass_run.new.self.code.items (raw_bytes x), bytes_len x step.raw);
+        count = omega (arith, inv.count, c.in_ok-pass_run.ensures.forth, step.moves);
+        later = omega (arith, inv.later, c.in_ok-pass_next.ensures.later);
       },
     )
 
-pub returns-in_err-moved-clause-value : goal.returns-in_err-moved-clause-value
-unfolding pieces
-returns-in_err-moved-clause-value g c =
-    let p = err_from_is_err_and c.from_residual-in_err-moved.result c.from_residual-in_err-moved.ensures.1 in
-    let inv = c.loop.invariant.1 in
-    rw (p.1, p.2) (λ k. fill_ends c.in_err-moved.field-0.0 (blamed instruction) c.args.byte_count c.loop.counter (raws_in c.loop.invariant.0) _ _ _ _ _ c.loop-test.true
-    (omega (arith, c.if-here-byte_count.false, c.place.ensures.is, c.place-first.ensures.is, inv.size)) inv.filling (c.in_err-moved.ensures.value inv.filling.fresh))
+pub returns-in_err-pass_next-clause-value : goal.returns-in_err-pass_next-clause-value
+returns-in_err-pass_next-clause-value g c =
+    let p = err_from_is_err_and c.from_residual-in_err-pass_next.result c.from_residual-in_err-pass_next.ensures.1 in
+    let n = c.args.byte_count in
+    let w = c.loop.w in
+    let w2 = c.pass_run.new.w in
+    let s0 = g.S.Source.left c.args.source.now in
+    let s = g.S.Source.left c.loop.source in
+    let xs = c.loop.invariant.0 in
+    let r = c.in_ok-pass_run.ensures.run in
+    let u = until_run n xs c.args.w.now s0 w s c.loop.invariant.1.so_far r.run.xs r.count w2 r.run.spelled r.run.size r.ready r.is in
+    rw (p.1, p.2) (λ k. until_ends n (xs ++ r.run.xs) c.args.w.now s0 w2 s u c.in_err-pass_next.field-0.0 _ (omega (arith, c.if-here-byte_count.false, c.place-in-loop.ensures.is, c.place-first.ensures.is, u.size))
+    (c.in_err-pass_next.ensures.value u.filling.fresh))
 
 pub returns-after-loop-clause-value : goal.returns-after-loop-clause-value
-unfolding pieces
 returns-after-loop-clause-value g c =
+    let n = c.args.byte_count in
     let xs = c.loop.invariant.0 in
-    let inv = c.loop.invariant.1 in (
+    let inv = c.loop.invariant.1 in
+    let s0 = g.S.Source.left c.args.source.now in
+    let s = g.S.Source.left c.loop.source in (
       xs,
       inv.scan,
-      record { some = inv.some; raw = inv.raw; size = omega (arith, inv.size, inv.within); few = omega (arith, inv.few, inv.moved, inv.within) },
-      inv.moved,
-      inv.size,
-      fill_done (blamed instruction) c.args.byte_count c.loop.counter (raws_in xs) _ _ _ _ (omega (arith, inv.filling.room.1, c.loop-test.false)) c.requires.fresh inv.filling,
+      until_read n xs c.args.w.now s0 c.loop.w s inv.so_far,
+      inv.so_far.size,
+      until_done n xs c.args.w.now s0 c.loop.w s inv.so_far (omega (arith, inv.count, c.loop-test.false)) c.requires.fresh,
     )
 
 pub returns-then-here-byte_count-clause-value : goal.returns-then-here-byte_count-clause-value
-unfolding pieces
 returns-then-here-byte_count-clause-value g c =
+    let n = c.args.byte_count in
+    let w = c.loop.w in
+    let w2 = c.pass_run.new.w in
+    let s0 = g.S.Source.left c.args.source.now in
+    let s = g.S.Source.left c.loop.source in
+    let inv = c.loop.invariant.1 in
     let xs = c.loop.invariant.0 in
-    let inv = c.loop.invariant.1 in (
-      xs,
-      inv.scan,
-      record { some = inv.some; raw = inv.raw; size = omega (arith, inv.size, inv.within); few = omega (arith, inv.few, inv.moved, inv.within) },
-      inv.moved,
-      inv.size,
-      fill_done (blamed instruction) c.args.byte_count c.loop.counter (raws_in xs) _ _ _ _ (omega (arith, c.if-here-byte_count.true, c.place.ensures.is, c.place-first.ensures.is, inv.size)) c.requires.fresh inv.filling,
+    let r = c.in_ok-pass_run.ensures.run in
+    let ys = r.run.xs in
+    let u = until_run n xs c.args.w.now s0 w s inv.so_far ys r.count w2 r.run.spelled r.run.size r.ready r.is in (
+      xs ++ ys,
+      scan_run xs (held w) (c.place.result - c.place-first.result) r.count c.loop.scan c.pass_run.new.self inv.so_far.some inv.so_far.raw (omega (arith, inv.so_far.size, c.place.ensures.is, c.place-first.ensures.is)) inv.scan r.run r.code,
+      until_read n (xs ++ ys) c.args.w.now s0 w2 s u,
+      u.size,
+      until_done n (xs ++ ys) c.args.w.now s0 w2 s u (omega (arith, c.if-here-byte_count.true, c.place-in-loop.ensures.is, c.place-first.ensures.is, u.size)) c.requires.fresh,
     )
