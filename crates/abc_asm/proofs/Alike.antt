@@ -9,8 +9,8 @@ use Rattle.abc_text_lines.specs.Words.{place_of}
 use Rattle.abc_text_lines.proofs.Bools.{split_bool}
 use Rattle.abc_text_lines.specs.Lines.{Row}
 use Rattle.abc_text_lines.specs.Operands.{Operands}
-use Rattle.abc_text_lines.specs.Rows.{Fault, Faults, Rows, both, fault, headed, items_reads, pair_reads, unless, ◌>>=◌}
-use Rattle.abc_text_lines.specs.Wordlines.{line}
+use Rattle.abc_text_lines.specs.Rows.{Fault, Faults, Rows, both_rows, fault, item_first, items_reads, pair_reads, unless, ◌>>=◌}
+use Rattle.abc_text_lines.specs.Wordlines.{lines_of_word}
 use Rattle.abc_text_reader.specs.Parts.{item_of, items_read}
 
 abbrev pub Reading : Type 0 → Type 0
@@ -47,20 +47,20 @@ module _ {H B G D A : Type 0} (fs : Faults) (w : Word) (p : Operands H) (agree :
   abbrev item : Row → List Row → Reading A
   item = item_of fs (λ labels tokens. g (p.value labels tokens)) lower make
 
-  module _ (n : ℕ) (h : H) (again : (rows : List Row) → listed_as (items_reads fs (line w p agree) below n rows) ≡ items_read w item n rows) where
+  module _ (n : ℕ) (h : H) (again : (rows : List Row) → listed_as (items_reads fs (lines_of_word w p agree) below n rows) ≡ items_read w item n rows) where
     abbrev ahead : A → Reading (List A) → Reading (List A)
     ahead x r = r >>= λ xs. Ok (x ∷ xs.0, xs.1)
 
     abbrev more : Reading A → Reading (List A)
     more r = r >>= λ x. items_read w item n x.1 >>= λ xs. Ok (x.0 ∷ xs.0, xs.1)
 
-    front : (y : B × List Row) (r : Reading (List (H × B))) → listed_as (headed h (r >>= λ z. Ok ((y.0, z.0), z.1))) ≡ ahead (make (g h) (conv y.0)) (listed_as r)
+    front : (y : B × List Row) (r : Reading (List (H × B))) → listed_as (item_first h (r >>= λ z. Ok ((y.0, z.0), z.1))) ≡ ahead (make (g h) (conv y.0)) (listed_as r)
     front y (Ok z) = refl
     front y (Err d) = refl
 
-    whole : (r : Reading B) (t : Reading D) → as_other conv r ≡ t → listed_as (headed h (r >>= λ y. items_reads fs (line w p agree) below n y.1 >>= λ z. Ok ((y.0, z.0), z.1))) ≡ more (t >>= λ y. Ok (make (g h) y.0, y.1))
+    whole : (r : Reading B) (t : Reading D) → as_other conv r ≡ t → listed_as (item_first h (r >>= λ y. items_reads fs (lines_of_word w p agree) below n y.1 >>= λ z. Ok ((y.0, z.0), z.1))) ≡ more (t >>= λ y. Ok (make (g h) y.0, y.1))
     whole (Ok y) t e =
-        front y (items_reads fs (line w p agree) below n y.1)
+        front y (items_reads fs (lines_of_word w p agree) below n y.1)
         ∙ ap (ahead (make (g h) (conv y.0))) (again y.1)
         ∙ ap (λ (z : Reading D). more (z >>= λ y. Ok (make (g h) y.0, y.1))) e
     whole (Err d) t e = ap (λ (z : Reading D). more (z >>= λ y. Ok (make (g h) y.0, y.1))) e
@@ -69,13 +69,13 @@ module _ {H B G D A : Type 0} (fs : Faults) (w : Word) (p : Operands H) (agree :
     unlessed None number r t e = e
     unlessed (Some s) number r t e = refl
 
-  pub many_is : (n : ℕ) (rows : List Row) → listed_as (items_reads fs (line w p agree) below n rows) ≡ items_read w item n rows
+  pub many_is : (n : ℕ) (rows : List Row) → listed_as (items_reads fs (lines_of_word w p agree) below n rows) ≡ items_read w item n rows
   many_is zero rows = refl
   many_is (suc n) [] = refl
   many_is (suc n) (row ∷ rows) =
       let h = p.value row.labels row.operands in
       let o = least (fs row rows) in
-      let r : Reading (List (H × B)) = headed h (pair_reads below.reads (items_reads fs (line w p agree) below n) rows) in
+      let r : Reading (List (H × B)) = item_first h (pair_reads below.reads (items_reads fs (lines_of_word w p agree) below n) rows) in
       let t : Reading A = lower rows >>= λ y. Ok (make (g h) y.0, y.1) in
       elim (split_bool (nat_eq (place_of row.word) (place_of w))) [
         | inl e ↦

@@ -15,27 +15,27 @@ use Rattle.abc_file_types.specs.declared.code.Instr.{Instr}
 use Rattle.abc_file_types.specs.declared.tables.Sizes.{Sizes}
 use Rattle.abc_file_types.specs.declared.traits.TraitInfo.{TraitInfo}
 use Rattle.abc_file_types.specs.CodeBytes.{code_len}
-use Rattle.abc_text_lines.specs.Firsts.{told}
+use Rattle.abc_text_lines.specs.Firsts.{value_or_reason}
 use Rattle.abc_text_lines.specs.Lines.{Label, Row}
 use Rattle.abc_text_lines.specs.Rows.{Fault, fault, unless, ◌>>=◌}
-use Rattle.abc_text_lines.specs.Wordlines.{if_none, plain_faults, twice}
+use Rattle.abc_text_lines.specs.Wordlines.{if_none, plain_faults, repeat_reason}
 use Rattle.abc_text_lines.specs.File as file
 use Rattle.abc_text_lines.specs.File.{ends_body, extra, faults, long_code, others, own, rules}
 use Rattle.abc_text_lines.specs.Lineforms as forms
 use Rattle.abc_text_tokens.specs.Walks.{tokens_of}
 use Rattle.abc_text_tokens.specs.declared.token.Token as code
 use Rattle.abc_text_operands.specs.Heads.{as_body}
-use Rattle.abc_text_operands.specs.Joined.{line_result, mapped}
+use Rattle.abc_text_operands.specs.Joined.{line_result, map_operand}
 use Rattle.abc_text_operands.specs.declared.lines.BodyHead.{BodyHead}
 use Rattle.abc_text_reader.specs.declared.error.AsmError.{AsmError}
 use Rattle.abc_text_reader.specs.declared.error.AsmError.TheVariants as errors
 use Rattle.abc_text_reader.specs.declared.reader.Reader.{Reader}
 use Rattle.abc_text_reader.specs.declared.reader.Taken.{Taken}
-use Rattle.abc_text_reader.specs.Parts.{Gives, ReadsItem, ReadsPart, valued_at}
+use Rattle.abc_text_reader.specs.Parts.{GivesPart, ReadsItem, ReadsTextPart, valued_at}
 use Rattle.abc_text_reader.specs.Reading.{Goes, labels_now, row_of, rows_left}
 use Rattle.abc_text_reader.proofs.Lone.{whole_faults}
 use Rattle.abc_text_reader.proofs.Pairs.{item_is, told_none, told_some}
-use Rattle.abc_asm.specs.Below.{body_below, body_item, body_made, body_of, body_value}
+use Rattle.abc_asm.specs.Below.{body_below, body_item, body_made, body_from_below, body_value}
 use Rattle.abc_asm.specs.declared.bodies.BodyBelow.{BodyBelow}
 use Rattle.abc_asm.specs.Counted.{with_fault}
 use Rattle.abc_asm.proofs.Alike.{Reading, as_other}
@@ -118,60 +118,60 @@ module _ (old mid : Reader) (taken : Taken) (word : taken.word ≡ words.Body) (
   pub plain_is : plain ≡ own v i words.Body labels tokens ++ again
   plain_is =
       whole_faults v i head after refl
-      ∙ ap (λ (w : Word). own v i w labels tokens ++ (others v i head after w ++ cond taken.repeated (twice w ∷ []) [])) word
+      ∙ ap (λ (w : Word). own v i w labels tokens ++ (others v i head after w ++ cond taken.repeated (repeat_reason w ∷ []) [])) word
 
   again_is : (b : Bool) → unless_fine (not b) reasons.SecondBody ≡ cond b (reasons.SecondBody ∷ []) []
   again_is true = refl
   again_is false = refl
 
   -- what the line's function says of the operands that the reader found
-  pub line_says : (said : Result BodyHead AsmReason) (ts : List code.Token) → ts ≡ mid.operands.items → ((ls : List Label) → mapped as_body said ≡ line_result (forms.body_line mid.sizes) ls (tokens_of ts)) → with_fault said (not taken.repeated) reasons.SecondBody ≡ told (least plain) h
+  pub line_says : (said : Result BodyHead AsmReason) (ts : List code.Token) → ts ≡ mid.operands.items → ((ls : List Label) → map_operand as_body said ≡ line_result (forms.body_line mid.sizes) ls (tokens_of ts)) → with_fault said (not taken.repeated) reasons.SecondBody ≡ value_or_reason (least plain) h
   line_says said ts same says =
       let own_faults = own v i words.Body labels tokens in
-      let here : mapped as_body said ≡ line_result (forms.body_line v) labels tokens =
-      subst (λ (z : Sizes). mapped as_body said ≡ line_result (forms.body_line z) labels tokens) goes.sizes
-      (subst (λ (l : List code.Token). mapped as_body said ≡ line_result (forms.body_line mid.sizes) labels (tokens_of l)) same (says labels)) in
-      let is : said ≡ told (least own_faults) h = unmapped as_body body_head (λ b. refl) said (least own_faults) ((forms.body_line v).value labels tokens) here in
+      let here : map_operand as_body said ≡ line_result (forms.body_line v) labels tokens =
+      subst (λ (z : Sizes). map_operand as_body said ≡ line_result (forms.body_line z) labels tokens) goes.sizes
+      (subst (λ (l : List code.Token). map_operand as_body said ≡ line_result (forms.body_line mid.sizes) labels (tokens_of l)) same (says labels)) in
+      let is : said ≡ value_or_reason (least own_faults) h = unmapped as_body body_head (λ b. refl) said (least own_faults) ((forms.body_line v).value labels tokens) here in
       ap (λ (r : Result BodyHead AsmReason). with_fault r (not taken.repeated) reasons.SecondBody) is
       ∙ fault_says own_faults h (not taken.repeated) reasons.SecondBody
-      ∙ ap (λ (l : List AsmReason). told (least (own_faults ++ l)) h) (again_is taken.repeated)
-      ∙ ap (λ (l : List AsmReason). told (least l) h) (sym plain_is)
+      ∙ ap (λ (l : List AsmReason). value_or_reason (least (own_faults ++ l)) h) (again_is taken.repeated)
+      ∙ ap (λ (l : List AsmReason). value_or_reason (least l) h) (sym plain_is)
 
   extra_is : extra v i head after taken.word ≡ long_code v i read
   extra_is = ap (λ (w : Word). extra v i head after w) word
 
   abbrev item_by : Option AsmReason → Reading BodyBelow → Reading Body
-  item_by o r = unless o taken.number (r >>= λ y. Ok (body_of h y.0, y.1))
+  item_by o r = unless o taken.number (r >>= λ y. Ok (body_from_below h y.0, y.1))
 
   item_at : (n : ℕ) (row : Row) (rows : List Row) → rows_left old ≡ row ∷ rows → body_item v i n row rows ≡ item_by (least (faults v i head after)) (body_below v i n after)
-  item_at n row rows e = item_is body_value body_below body_of old mid taken opens goes n row rows e
+  item_at n row rows e = item_is body_value body_below body_from_below old mid taken opens goes n row rows e
 
   -- the line has a fault of its own
-  pub own_fails : (new : Reader) (r : AsmReason) → Err r ≡ told (least plain) h → ReadsItem body_item old new (Err (errors.Refused taken.number r))
+  pub own_fails : (new : Reader) (r : AsmReason) → Err r ≡ value_or_reason (least plain) h → ReadsItem body_item old new (Err (errors.Refused taken.number r))
   own_fails new r is n row rows le e =
       item_at n row rows e
-      ∙ ap (λ (o : Option AsmReason). item_by o (body_below v i n after)) (some_first plain (extra v i head after taken.word) r (told_some body_value body_below body_of (least plain) h r is))
+      ∙ ap (λ (o : Option AsmReason). item_by o (body_below v i n after)) (some_first plain (extra v i head after taken.word) r (told_some body_value body_below body_from_below (least plain) h r is))
 
-  pub head_fails : (new : Reader) (r : Result BodyHead AsmReason) (d : AsmError) → r ≡ told (least plain) h → Err d ≡ valued_at taken.number r → ReadsItem body_item old new (Err d)
+  pub head_fails : (new : Reader) (r : Result BodyHead AsmReason) (d : AsmError) → r ≡ value_or_reason (least plain) h → Err d ≡ valued_at taken.number r → ReadsItem body_item old new (Err d)
   head_fails new (Ok x) d is e = absurd cc
   head_fails new (Err s) d is e =
       let same : d ≡ errors.Refused taken.number s = cc in
       subst (λ (z : AsmError). ReadsItem body_item old new (Err z)) (sym same) (own_fails new s is)
 
-  pub head_fine : (r : Result BodyHead AsmReason) (x : BodyHead) → r ≡ told (least plain) h → Ok x ≡ valued_at taken.number r → Ok x ≡ told (least plain) h
+  pub head_fine : (r : Result BodyHead AsmReason) (x : BodyHead) → r ≡ value_or_reason (least plain) h → Ok x ≡ valued_at taken.number r → Ok x ≡ value_or_reason (least plain) h
   head_fine (Ok y) x is e = let same : x ≡ y = cc in let good : BodyHead → Result BodyHead AsmReason = λ z. Ok z in ap good same ∙ is
   head_fine (Err s) x is e = absurd cc
 
-  faults_are : (x : BodyHead) → Ok x ≡ told (least plain) h → faults v i head after ≡ long_code v i read
+  faults_are : (x : BodyHead) → Ok x ≡ value_or_reason (least plain) h → faults v i head after ≡ long_code v i read
   faults_are x is =
-      let none : plain ≡ [] = nil_of plain (told_none body_value body_below body_of (least plain) h x is).0 in
+      let none : plain ≡ [] = nil_of plain (told_none body_value body_below body_from_below (least plain) h x is).0 in
       ap (λ (l : List AsmReason). l ++ if_none l (extra v i head after taken.word)) none ∙ extra_is
 
   -- what is read below, by the sizes that were first
-  below_at : (new : Reader) (result : Result BodyBelow AsmError) → ReadsPart body_below mid new result → (n : ℕ) → length after ≤ n → Gives (rows_left new) result (body_below v i n after)
+  below_at : (new : Reader) (result : Result BodyBelow AsmError) → ReadsTextPart body_below mid new result → (n : ℕ) → length after ≤ n → GivesPart (rows_left new) result (body_below v i n after)
   below_at new result reads n le =
-      subst (λ (k : ℕ). Gives (rows_left new) result (body_below v k n after)) goes.instances
-      (subst (λ (z : Sizes). Gives (rows_left new) result (body_below z mid.instances n after)) goes.sizes (reads n le))
+      subst (λ (k : ℕ). GivesPart (rows_left new) result (body_below v k n after)) goes.instances
+      (subst (λ (z : Sizes). GivesPart (rows_left new) result (body_below z mid.instances n after)) goes.sizes (reads n le))
 
   few : (n : ℕ) → length (rows_left old) ≤ n → length after ≤ n
   few n le = let fewer = goes.fewer in omega arith
@@ -185,7 +185,7 @@ module _ (old mid : Reader) (taken : Taken) (word : taken.word ≡ words.Body) (
   one_fault r = refl
 
   -- a line below has a fault
-  pub below_fails : (new : Reader) (x : BodyHead) (e : AsmError) → Ok x ≡ told (least plain) h → ReadsPart body_below mid new (Err e) → ReadsItem body_item old new (Err e)
+  pub below_fails : (new : Reader) (x : BodyHead) (e : AsmError) → Ok x ≡ value_or_reason (least plain) h → ReadsTextPart body_below mid new (Err e) → ReadsItem body_item old new (Err e)
   below_fails new x (errors.Refused line reason) is reads n row rows le e =
       let bad : read ≡ Err (fault line reason) = other_err body_made read (fault line reason) (plain_below v i (length after) after ∙ below_at new (Err (errors.Refused line reason)) reads (length after) (omega arith)) in
       let none : faults v i head after ≡ [] = faults_are x is ∙ ap (λ (r : Reading (List Instr × (List Handler × List TraitInfo))). long_code v i r) bad in
@@ -195,7 +195,7 @@ module _ (old mid : Reader) (taken : Taken) (word : taken.word ≡ words.Body) (
       ∙ ap (λ (r : Reading BodyBelow). item_by None r) (below_at new (Err (errors.Refused line reason)) reads n (few n le))
   below_fails new x errors.NoMemory is reads n row rows le e = tt
 
-  module _ (new : Reader) (x : BodyHead) (y : BodyBelow) (is : Ok x ≡ told (least plain) h) (reads : ReadsPart body_below mid new (Ok y)) where
+  module _ (new : Reader) (x : BodyHead) (y : BodyBelow) (is : Ok x ≡ value_or_reason (least plain) h) (reads : ReadsTextPart body_below mid new (Ok y)) where
     abbrev left : List Row
     left = rows_left new
 
@@ -220,14 +220,14 @@ module _ (old mid : Reader) (taken : Taken) (word : taken.word ≡ words.Body) (
           ∙ one_fault (body_below v i n after)
 
       -- it isn't
-      pub body_fine : (b : Bool) → b ≡ (ends_body new.sizes new.instances left && nat_le (2 ^ 23) len) → b ≡ false → (z : Body) → z ≡ body_of x y → ReadsItem body_item old new (Ok z)
+      pub body_fine : (b : Bool) → b ≡ (ends_body new.sizes new.instances left && nat_le (2 ^ 23) len) → b ≡ false → (z : Body) → z ≡ body_from_below x y → ReadsItem body_item old new (Ok z)
       body_fine b by is_short z made n row rows le f =
           let e = long_by b by ∙ is_short in
           let none : faults v i head after ≡ [] = faults_are x is ∙ long_is ∙ ap (λ (b : Bool). cond b (reasons.CodeTooLong ∷ []) []) e in
-          let value : h ≡ x = (told_none body_value body_below body_of (least plain) h x is).1 in
+          let value : h ≡ x = (told_none body_value body_below body_from_below (least plain) h x is).1 in
           item_at n row rows f
           ∙ ap (λ (l : List AsmReason). item_by (least l) (body_below v i n after)) none
           ∙ no_fault (body_below v i n after)
           ∙ ap (λ (r : Reading BodyBelow). item_by None r) (below_at new (Ok y) reads n (few n le))
-          ∙ ap (λ (b : BodyHead). Ok (body_of b y, left)) value
+          ∙ ap (λ (b : BodyHead). Ok (body_from_below b y, left)) value
           ∙ ap (λ (b : Body). Ok (b, left)) (sym made)

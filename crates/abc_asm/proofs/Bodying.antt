@@ -14,8 +14,8 @@ use Rattle.abc_file_types.specs.declared.tables.Sizes.{Sizes}
 use Rattle.abc_file_types.specs.declared.traits.TraitInfo.{TraitInfo}
 use Rattle.abc_text_lines.specs.Lines.{Label, Row}
 use Rattle.abc_text_lines.specs.Operands.{Operands}
-use Rattle.abc_text_lines.specs.Rows.{Fault, Faults, Head, code_reads, coded, is_label, nothing, pair_reads, unless, ◌>>=◌}
-use Rattle.abc_text_lines.specs.Wordlines.{always, closed_to, faults_of, flat, if_none, plain_faults}
+use Rattle.abc_text_lines.specs.Rows.{Fault, Faults, Head, code_reads, instruction_first, is_label, empty_rows, pair_reads, unless, ◌>>=◌}
+use Rattle.abc_text_lines.specs.Wordlines.{always, closed_to, faults_by_rules, flat_lines, if_none, plain_faults}
 use Rattle.abc_text_lines.proofs.Many.{eq_true}
 use Rattle.abc_text_lines.specs.File as file
 use Rattle.abc_text_lines.specs.File.{extra, faults, instructions, plain_rules, rules}
@@ -32,8 +32,8 @@ as_same (Err d) = refl
 
 -- ---- lines of one word
 
-pub flat_is : {A : Type 0} (fs : Faults) (w : Word) (p : Operands A) (n : ℕ) (rows : List Row) → (flat fs w p n).reads rows ≡ items_read w (lone fs (λ labels tokens. p.value labels tokens)) n rows
-flat_is {A} fs w p n rows = many_is fs w p always nothing (λ (x : A). x) (λ (x : Unit {0}). x) nothing.reads (λ (h : A) (b : Unit {0}). h) (λ l. refl) n rows
+pub flat_is : {A : Type 0} (fs : Faults) (w : Word) (p : Operands A) (n : ℕ) (rows : List Row) → (flat_lines fs w p n).reads rows ≡ items_read w (lone fs (λ labels tokens. p.value labels tokens)) n rows
+flat_is {A} fs w p n rows = many_is fs w p always empty_rows (λ (x : A). x) (λ (x : Unit {0}). x) empty_rows.reads (λ (h : A) (b : Unit {0}). h) (λ l. refl) n rows
 
 -- the metadata of a trait, and traits
 module _ (v : Sizes) (instances : ℕ) where
@@ -49,12 +49,12 @@ module _ (v : Sizes) (instances : ℕ) where
   pub traits_are : (fs : Faults) (n : ℕ) (rows : List Row) → (file.traits v instances fs n).reads rows ≡ traits_by fs n rows
   unfolding file.traits
   traits_are fs n rows =
-      many_is fs words.Trait (forms.trait_line v) (file.MetadataAgrees v instances) (closed_to file.skipped (flat fs words.TraitMetadata (forms.trait_metadata_line v) n)) trait_head (λ (x : List ℕ). x) (metadata_by fs n) trait_of (λ l. as_same ((flat fs words.TraitMetadata (forms.trait_metadata_line v) n).reads l) ∙ flat_is fs words.TraitMetadata (forms.trait_metadata_line v) n l) n rows
+      many_is fs words.Trait (forms.trait_line v) (file.MetadataAgrees v instances) (closed_to file.skipped_words (flat_lines fs words.TraitMetadata (forms.trait_metadata_line v) n)) trait_head (λ (x : List ℕ). x) (metadata_by fs n) trait_of (λ l. as_same ((flat_lines fs words.TraitMetadata (forms.trait_metadata_line v) n).reads l) ∙ flat_is fs words.TraitMetadata (forms.trait_metadata_line v) n l) n rows
 
   -- ---- all faults, and the plain ones
 
   abbrev pub plainly : Faults
-  plainly = faults_of (plain_rules v instances)
+  plainly = faults_by_rules (plain_rules v instances)
 
   no_extra : (w : Word) → nat_eq (place_of w) 22 ≡ false → (row : Row) (after : List Row) → extra v instances row after w ≡ []
   no_extra words.Body other row after = absurd cc
@@ -108,7 +108,7 @@ module _ (v : Sizes) (instances : ℕ) where
   code_same : (rows : List Row) → code_reads plainly (instructions v instances) rows ≡ code_reads (faults v instances) (instructions v instances) rows
   code_same [] = refl
   code_same (row ∷ rows) =
-      let more : Reading (List Instr) → Reading (List Instr) = λ r. coded (is_label row.word) ((instructions v instances).value row) r in
+      let more : Reading (List Instr) → Reading (List Instr) = λ r. instruction_first (is_label row.word) ((instructions v instances).value row) r in
       elim (split_bool (nat_eq (place_of row.word) 23)) [
         | inl e ↦ rw e (
             ap (λ (l : List AsmReason). unless (least l) row.number (more (code_reads plainly (instructions v instances) rows))) (faults_same row rows (ap (λ (k : ℕ). nat_eq k 22) (eq_true (place_of row.word) 23 e)))
@@ -129,12 +129,12 @@ module _ (v : Sizes) (instances : ℕ) where
   below_by : (fs : Faults) (n : ℕ) → ((rows : List Row) → code_reads fs (instructions v instances) rows ≡ code_reads (faults v instances) (instructions v instances) rows) → ((rows : List Row) → handlers_by fs n rows ≡ handlers_by (faults v instances) n rows) → ((rows : List Row) → traits_by fs n rows ≡ traits_by (faults v instances) n rows) → (rows : List Row) → as_other body_made ((file.body_below v instances fs n).reads rows) ≡ body_below v instances n rows
   unfolding file.body_below
   below_by fs n code handlers traits rows =
-      let two : (l : List Row) → pair_reads (flat fs words.Catch (forms.catch_line v) n).reads (file.traits v instances fs n).reads l ≡ pair_reads (handlers_by (faults v instances) n) (traits_by (faults v instances) n) l = λ l.
-      sym (as_same (pair_reads (flat fs words.Catch (forms.catch_line v) n).reads (file.traits v instances fs n).reads l))
-      ∙ pair_is (λ (x : List Handler). x) (λ (x : List TraitInfo). x) (file.traits v instances fs n).reads (traits_by (faults v instances) n) (λ m. as_same ((file.traits v instances fs n).reads m) ∙ traits_are fs n m ∙ traits m) (flat fs words.Catch (forms.catch_line v) n).reads (handlers_by (faults v instances) n) (λ m. as_same ((flat fs words.Catch (forms.catch_line v) n).reads m) ∙ flat_is fs words.Catch (forms.catch_line v) n m ∙ handlers m) l in
-      let all : pair_reads (code_reads fs (instructions v instances)) (pair_reads (flat fs words.Catch (forms.catch_line v) n).reads (file.traits v instances fs n).reads) rows ≡ pair_reads (code_reads (faults v instances) (instructions v instances)) (pair_reads (handlers_by (faults v instances) n) (traits_by (faults v instances) n)) rows =
-      sym (as_same (pair_reads (code_reads fs (instructions v instances)) (pair_reads (flat fs words.Catch (forms.catch_line v) n).reads (file.traits v instances fs n).reads) rows))
-      ∙ pair_is (λ (x : List Instr). x) (λ (x : List Handler × List TraitInfo). x) (pair_reads (flat fs words.Catch (forms.catch_line v) n).reads (file.traits v instances fs n).reads) (pair_reads (handlers_by (faults v instances) n) (traits_by (faults v instances) n)) (λ m. as_same (pair_reads (flat fs words.Catch (forms.catch_line v) n).reads (file.traits v instances fs n).reads m) ∙ two m) (code_reads fs (instructions v instances)) (code_reads (faults v instances) (instructions v instances)) (λ m. as_same (code_reads fs (instructions v instances) m) ∙ code m) rows in
+      let two : (l : List Row) → pair_reads (flat_lines fs words.Catch (forms.catch_line v) n).reads (file.traits v instances fs n).reads l ≡ pair_reads (handlers_by (faults v instances) n) (traits_by (faults v instances) n) l = λ l.
+      sym (as_same (pair_reads (flat_lines fs words.Catch (forms.catch_line v) n).reads (file.traits v instances fs n).reads l))
+      ∙ pair_is (λ (x : List Handler). x) (λ (x : List TraitInfo). x) (file.traits v instances fs n).reads (traits_by (faults v instances) n) (λ m. as_same ((file.traits v instances fs n).reads m) ∙ traits_are fs n m ∙ traits m) (flat_lines fs words.Catch (forms.catch_line v) n).reads (handlers_by (faults v instances) n) (λ m. as_same ((flat_lines fs words.Catch (forms.catch_line v) n).reads m) ∙ flat_is fs words.Catch (forms.catch_line v) n m ∙ handlers m) l in
+      let all : pair_reads (code_reads fs (instructions v instances)) (pair_reads (flat_lines fs words.Catch (forms.catch_line v) n).reads (file.traits v instances fs n).reads) rows ≡ pair_reads (code_reads (faults v instances) (instructions v instances)) (pair_reads (handlers_by (faults v instances) n) (traits_by (faults v instances) n)) rows =
+      sym (as_same (pair_reads (code_reads fs (instructions v instances)) (pair_reads (flat_lines fs words.Catch (forms.catch_line v) n).reads (file.traits v instances fs n).reads) rows))
+      ∙ pair_is (λ (x : List Instr). x) (λ (x : List Handler × List TraitInfo). x) (pair_reads (flat_lines fs words.Catch (forms.catch_line v) n).reads (file.traits v instances fs n).reads) (pair_reads (handlers_by (faults v instances) n) (traits_by (faults v instances) n)) (λ m. as_same (pair_reads (flat_lines fs words.Catch (forms.catch_line v) n).reads (file.traits v instances fs n).reads m) ∙ two m) (code_reads fs (instructions v instances)) (code_reads (faults v instances) (instructions v instances)) (λ m. as_same (code_reads fs (instructions v instances) m) ∙ code m) rows in
       ap (as_other body_made) all
 
   -- what the definitions read below a body, for the body's own fault and for its value

@@ -11,7 +11,7 @@ use Rattle.abc_text_lines.specs.Wordlines.{count_all}
 use Rattle.abc_text_lines.specs.File.{count_unless, instance_counts, method_counts, trait_counts}
 use Rattle.abc_text_lines.specs.Lineforms as forms
 use Rattle.abc_text_operands.specs.Heads.{as_instance, as_method}
-use Rattle.abc_text_operands.specs.Joined.{line_result, mapped}
+use Rattle.abc_text_operands.specs.Joined.{line_result, map_operand}
 use Rattle.abc_text_operands.specs.declared.lines.InstanceHead.{InstanceHead}
 use Rattle.abc_text_operands.specs.declared.lines.MethodHead.{MethodHead}
 use Rattle.abc_text_operands.specs.Traited.{as_trait}
@@ -38,7 +38,7 @@ trait_head t = record { attrs = t.attrs; name = t.name; body = t.body }
 abbrev number : ℕ → ℕ
 number n = n
 
-mapped_same : (r : Result ℕ AsmReason) → mapped number r ≡ r
+mapped_same : (r : Result ℕ AsmReason) → map_operand number r ≡ r
 mapped_same (Ok n) = refl
 mapped_same (Err e) = refl
 
@@ -47,25 +47,25 @@ module _ (r : Reader) (taken : Taken) (once : taken.repeated ≡ false) (ts : Li
   labels = labels_now r.body
 
   -- what a line's function says of the operands that the reader found
-  moved : {C S : Type 0} (f : C → S) (p : Operands S) (said : Result C AsmReason) → ((ls : List Label) → mapped f said ≡ line_result p ls (tokens_of ts)) → mapped f said ≡ line_result p labels (tokens_of r.operands.items)
-  moved f p said says = subst (λ (l : List Token). mapped f said ≡ line_result p labels (tokens_of l)) same (says labels)
+  moved : {C S : Type 0} (f : C → S) (p : Operands S) (said : Result C AsmReason) → ((ls : List Label) → map_operand f said ≡ line_result p ls (tokens_of ts)) → map_operand f said ≡ line_result p labels (tokens_of r.operands.items)
+  moved f p said says = subst (λ (l : List Token). map_operand f said ≡ line_result p labels (tokens_of l)) same (says labels)
 
-  numbered : (p : Operands ℕ) (said : Result ℕ AsmReason) → ((ls : List Label) → said ≡ line_result p ls (tokens_of ts)) → mapped number said ≡ line_result p labels (tokens_of r.operands.items)
+  numbered : (p : Operands ℕ) (said : Result ℕ AsmReason) → ((ls : List Label) → said ≡ line_result p ls (tokens_of ts)) → map_operand number said ≡ line_result p labels (tokens_of r.operands.items)
   numbered p said says = mapped_same said ∙ subst (λ (l : List Token). said ≡ line_result p labels (tokens_of l)) same (says labels)
 
-  pub method_says : (said : Result MethodHead AsmReason) (flags : ℕ) (fine : Bool) → taken.word ≡ words.Method → ((ls : List Label) → mapped as_method said ≡ line_result (forms.method_line r.sizes) ls (tokens_of ts)) → ((v : Sizes) (ls : List Label) → flags ≡ ((forms.method_line v).value ls (tokens_of ts)).flags) → fine ≡ method_counts flags (rows_left r) → with_fault said fine reasons.Count ≡ head_says method_value taken r
+  pub method_says : (said : Result MethodHead AsmReason) (flags : ℕ) (fine : Bool) → taken.word ≡ words.Method → ((ls : List Label) → map_operand as_method said ≡ line_result (forms.method_line r.sizes) ls (tokens_of ts)) → ((v : Sizes) (ls : List Label) → flags ≡ ((forms.method_line v).value ls (tokens_of ts)).flags) → fine ≡ method_counts flags (rows_left r) → with_fault said fine reasons.Count ≡ head_says method_value taken r
   method_says said flags fine word says of_flags is =
       let flagged : flags ≡ ((forms.method_line r.sizes).value labels (tokens_of r.operands.items)).flags = subst (λ (l : List Token). flags ≡ ((forms.method_line r.sizes).value labels (tokens_of l)).flags) same (of_flags r.sizes labels) in
       head_counted r taken words.Method word once as_method method_head (λ m. refl) (λ v ls tokens. (forms.method_line v).value ls tokens) said (moved as_method (forms.method_line r.sizes) said says) refl fine
       (ap count_unless (sym (is ∙ ap (λ (n : ℕ). method_counts n (rows_left r)) flagged)))
 
-  pub instance_says : (said : Result InstanceHead AsmReason) (flags : ℕ) (fine : Bool) → taken.word ≡ words.Instance → ((ls : List Label) → mapped as_instance said ≡ line_result (forms.instance_line r.sizes) ls (tokens_of ts)) → ((v : Sizes) (ls : List Label) → flags ≡ ((forms.instance_line v).value ls (tokens_of ts)).flags) → fine ≡ instance_counts r.sizes.classes r.instances flags (rows_left r) → with_fault said fine reasons.Count ≡ head_says instance_value taken r
+  pub instance_says : (said : Result InstanceHead AsmReason) (flags : ℕ) (fine : Bool) → taken.word ≡ words.Instance → ((ls : List Label) → map_operand as_instance said ≡ line_result (forms.instance_line r.sizes) ls (tokens_of ts)) → ((v : Sizes) (ls : List Label) → flags ≡ ((forms.instance_line v).value ls (tokens_of ts)).flags) → fine ≡ instance_counts r.sizes.classes r.instances flags (rows_left r) → with_fault said fine reasons.Count ≡ head_says instance_value taken r
   instance_says said flags fine word says of_flags is =
       let flagged : flags ≡ ((forms.instance_line r.sizes).value labels (tokens_of r.operands.items)).flags = subst (λ (l : List Token). flags ≡ ((forms.instance_line r.sizes).value labels (tokens_of l)).flags) same (of_flags r.sizes labels) in
       head_counted r taken words.Instance word once as_instance instance_head (λ i. refl) (λ v ls tokens. (forms.instance_line v).value ls tokens) said (moved as_instance (forms.instance_line r.sizes) said says) refl fine
       (ap count_unless (sym (is ∙ ap (λ (n : ℕ). instance_counts r.sizes.classes r.instances n (rows_left r)) flagged)))
 
-  pub trait_says : (said : Result TraitHead AsmReason) (attrs : ℕ) (fine : Bool) → taken.word ≡ words.Trait → ((ls : List Label) → mapped as_trait said ≡ line_result (forms.trait_line r.sizes) ls (tokens_of ts)) → ((v : Sizes) (ls : List Label) → attrs ≡ ((forms.trait_line v).value ls (tokens_of ts)).attrs) → fine ≡ trait_counts attrs (rows_left r) → with_fault said fine reasons.Count ≡ head_says trait_value taken r
+  pub trait_says : (said : Result TraitHead AsmReason) (attrs : ℕ) (fine : Bool) → taken.word ≡ words.Trait → ((ls : List Label) → map_operand as_trait said ≡ line_result (forms.trait_line r.sizes) ls (tokens_of ts)) → ((v : Sizes) (ls : List Label) → attrs ≡ ((forms.trait_line v).value ls (tokens_of ts)).attrs) → fine ≡ trait_counts attrs (rows_left r) → with_fault said fine reasons.Count ≡ head_says trait_value taken r
   trait_says said attrs fine word says of_attrs is =
       let flagged : attrs ≡ ((forms.trait_line r.sizes).value labels (tokens_of r.operands.items)).attrs = subst (λ (l : List Token). attrs ≡ ((forms.trait_line r.sizes).value labels (tokens_of l)).attrs) same (of_attrs r.sizes labels) in
       head_counted r taken words.Trait word once as_trait trait_head (λ t. refl) (λ v ls tokens. (forms.trait_line v).value ls tokens) said (moved as_trait (forms.trait_line r.sizes) said says) refl fine

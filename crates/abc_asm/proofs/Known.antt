@@ -7,7 +7,7 @@ use Rattle.abc_text_lines.specs.declared.word.Word.TheVariants as words
 use Rattle.abc_file_types.specs.declared.opcodes.Form.{Form}
 use Rattle.abc_file_types.specs.Opcodes.{form_at, form_in, info_at}
 use Rattle.abc_file_types.specs.declared.opcodes.OpInfo.{OpInfo}
-use Rattle.abc_asm.specs.Whole.{by_form, out_of_order}
+use Rattle.abc_asm.specs.Whole.{reason_by_form, out_of_order}
 
 abbrev pub IsKnown : Word → Type 0
 IsKnown words.Unknown = ⊥
@@ -18,21 +18,21 @@ abbrev Decided : Word → Type 0
 Decided w = (IsKnown w × (out_of_order w ≡ reasons.Order)) ⊎ ((¬ IsKnown w) × (out_of_order w ≡ reasons.Word))
 
 decided_form : (op : ℕ) (o : Option Form) → form_at op ≡ o → Decided (words.Instruction op)
-decided_form op None e = inr (unknown, ap by_form e)
+decided_form op None e = inr (unknown, ap reason_by_form e)
   where
     unknown : ¬ IsKnown (words.Instruction op)
     unknown h = let both : Some h.0 ≡ None = sym h.1 ∙ e in absurd cc
-decided_form op (Some form) e = inl ((form, e), ap by_form e)
+decided_form op (Some form) e = inl ((form, e), ap reason_by_form e)
 
 pub decided : (w : Word) → Decided w
 decided words.Unknown = inr ((λ h. h), refl)
 decided (words.Instruction op) = decided_form op (form_at op) refl
 decided _ = inl (tt, refl)
 
-pub formless : (op : ℕ) → info_at op ≡ None → by_form (form_at op) ≡ reasons.Word
+pub formless : (op : ℕ) → info_at op ≡ None → reason_by_form (form_at op) ≡ reasons.Word
 unfolding form_at
-formless op e = ap (λ (o : Option OpInfo). by_form (form_in o)) e
+formless op e = ap (λ (o : Option OpInfo). reason_by_form (form_in o)) e
 
-pub formed : (op : ℕ) (info : OpInfo) → info_at op ≡ Some info → by_form (form_at op) ≡ reasons.Order
+pub formed : (op : ℕ) (info : OpInfo) → info_at op ≡ Some info → reason_by_form (form_at op) ≡ reasons.Order
 unfolding form_at
-formed op info e = ap (λ (o : Option OpInfo). by_form (form_in o)) e
+formed op info e = ap (λ (o : Option OpInfo). reason_by_form (form_in o)) e

@@ -6,7 +6,7 @@ use Rattle.abc_text_lines.specs.declared.reason.AsmReason.{AsmReason}
 use Rattle.abc_text_lines.specs.declared.reason.AsmReason.TheVariants as reasons
 use Rattle.abc_text_lines.specs.declared.word.Word.{Word}
 use Rattle.abc_text_lines.specs.declared.word.Word.TheVariants as words
-use Rattle.abc_text_lines.specs.Reasons.{least, lesser, rank}
+use Rattle.abc_text_lines.specs.Reasons.{least, lesser, rank_of_reason}
 use Rattle.abc_file_types.specs.declared.code.Handler.{Handler}
 use Rattle.abc_file_types.specs.declared.code.Instr.{Instr}
 use Rattle.abc_file_types.specs.declared.opcodes.Form.{Form}
@@ -15,10 +15,10 @@ use Rattle.abc_file_types.specs.declared.tables.Sizes.{Sizes}
 use Rattle.abc_file_types.specs.declared.traits.TraitInfo.{TraitInfo}
 use Rattle.abc_file_types.specs.CodeBytes.{code_len}
 use Rattle.abc_file_types.specs.Opcodes.{form_at}
-use Rattle.abc_text_lines.specs.Assembly.{misplaced}
+use Rattle.abc_text_lines.specs.Assembly.{order_fault}
 use Rattle.abc_text_lines.specs.Lines.{Row}
 use Rattle.abc_text_lines.specs.Rows.{Fault, fault}
-use Rattle.abc_text_lines.specs.Wordlines.{faults_of, if_none, plain_faults, twice}
+use Rattle.abc_text_lines.specs.Wordlines.{faults_by_rules, if_none, plain_faults, repeat_reason}
 use Rattle.abc_text_lines.specs.File as file
 use Rattle.abc_text_lines.specs.File.{count_unless, ends_body, extra, faults, long_code, others, own, rules}
 use Rattle.abc_text_lines.specs.Lineforms as forms
@@ -38,7 +38,7 @@ cond_late false r s e f = f
 
 lesser_late : (r : AsmReason) (o : Option AsmReason) → is_late r ≡ true → option_late o ≡ true → is_late (lesser r o) ≡ true
 lesser_late r None e f = e
-lesser_late r (Some s) e f = cond_late (nat_le (rank r) (rank s)) r s e f
+lesser_late r (Some s) e f = cond_late (nat_le (rank_of_reason r) (rank_of_reason s)) r s e f
 
 first_true : (a b : Bool) → (a && b) ≡ true → (a ≡ true) × (b ≡ true)
 first_true true b e = (refl, e)
@@ -59,11 +59,11 @@ count_late : (b : Bool) → all_late (count_unless b) ≡ true
 count_late true = refl
 count_late false = refl
 
-twice_late : (w : Word) → is_late (twice w) ≡ true
+twice_late : (w : Word) → is_late (repeat_reason w) ≡ true
 twice_late words.Label = refl
 twice_late _ = refl
 
-again_late : (b : Bool) (w : Word) → all_late (cond b (twice w ∷ []) []) ≡ true
+again_late : (b : Bool) (w : Word) → all_late (cond b (repeat_reason w ∷ []) []) ≡ true
 again_late true w = ap (λ (c : Bool). c && true) (twice_late w)
 again_late false w = refl
 
@@ -88,20 +88,20 @@ module _ (v : Sizes) (i : ℕ) where
   long_late (Err f) = refl
 
   extra_late : (w : Word) (row : Row) (after : List Row) → all_late (extra v i row after w) ≡ true
-  extra_late words.Body row after = long_late ((file.body_below v i (faults_of (file.plain_rules v i)) (length after)).reads after)
+  extra_late words.Body row after = long_late ((file.body_below v i (faults_by_rules (file.plain_rules v i)) (length after)).reads after)
   extra_late _ row after = refl
 
   faults_late : (row : Row) (after : List Row) → row.broken ≡ false → IsKnown row.word → all_late (faults v i row after) ≡ true
   faults_late row after whole known =
       let plain = plain_faults (rules v i) row after in
-      let more = others v i row after row.word ++ cond row.repeated (twice row.word ∷ []) [] in
+      let more = others v i row after row.word ++ cond row.repeated (repeat_reason row.word ∷ []) [] in
       let late : all_late plain ≡ true = ap all_late (whole_faults v i row after whole) ∙ late_append (own v i row.word row.labels row.operands) more (own_late v i row.word known row.labels row.operands) (late_append (others v i row after row.word) _ (others_late row.word row after) (again_late row.repeated row.word)) in
       late_append plain (if_none plain (extra v i row after row.word)) late (none_late plain (extra v i row after row.word) (extra_late row.word row after))
 
   abbrev wrong : ℕ → AsmReason → Result Abc Fault
   wrong line reason = Err (fault line reason)
 
-  pub known_placed : (row : Row) (after : List Row) → row.broken ≡ false → IsKnown row.word → misplaced {A = Abc} (faults v i) row after ≡ Err (fault row.number reasons.Order)
+  pub known_placed : (row : Row) (after : List Row) → row.broken ≡ false → IsKnown row.word → order_fault {A = Abc} (faults v i) row after ≡ Err (fault row.number reasons.Order)
   known_placed row after whole known = ap (wrong row.number) (order_first (least (faults v i row after)) (least_late (faults v i row after) (faults_late row after whole known)))
 
   -- a line that is refused as Word has no other fault
@@ -112,7 +112,7 @@ module _ (v : Sizes) (i : ℕ) where
       ∙ ap (λ (l : List AsmReason). own v i row.word row.labels row.operands ++ (l ++ [])) other
       ∙ ap (λ (l : List AsmReason). l ++ []) is
 
-  word_placed : (row : Row) (after : List Row) → faults v i row after ≡ reasons.Word ∷ [] → misplaced {A = Abc} (faults v i) row after ≡ Err (fault row.number reasons.Word)
+  word_placed : (row : Row) (after : List Row) → faults v i row after ≡ reasons.Word ∷ [] → order_fault {A = Abc} (faults v i) row after ≡ Err (fault row.number reasons.Word)
   unfolding least
   word_placed row after e = ap (λ (l : List AsmReason). wrong row.number (lesser reasons.Order (least l))) e
 
@@ -124,17 +124,17 @@ module _ (v : Sizes) (i : ℕ) where
       none_of (Some form) h = absurd (h form refl)
 
   word_own : (w : Word) → ¬ IsKnown w → (row : Row) (after : List Row) → (own v i w row.labels row.operands ≡ reasons.Word ∷ []) × (others v i row after w ≡ []) × (extra v i row after w ≡ []) × (may_repeat w ≡ false)
-  unfolding forms.instruction_line
+  unfolding forms.instruction_operands
   word_own words.Unknown unknown row after = (refl, refl, refl, refl)
   word_own (words.Instruction op) unknown row after =
       let e = no_form op unknown in
-      (ap (λ (o : Option Form). cond ((forms.by_form op o).counts row.labels row.operands) ((forms.by_form op o).faults row.labels row.operands) (reasons.Operands ∷ [])) e, refl, refl, refl)
+      (ap (λ (o : Option Form). cond ((forms.operands_by_form op o).counts row.labels row.operands) ((forms.operands_by_form op o).faults row.labels row.operands) (reasons.Operands ∷ [])) e, refl, refl, refl)
   word_own _ unknown row after = absurd (unknown tt)
 
-  pub unknown_placed : (row : Row) (after : List Row) → row.broken ≡ false → (may_repeat row.word ≡ false → row.repeated ≡ false) → ¬ IsKnown row.word → misplaced {A = Abc} (faults v i) row after ≡ Err (fault row.number reasons.Word)
+  pub unknown_placed : (row : Row) (after : List Row) → row.broken ≡ false → (may_repeat row.word ≡ false → row.repeated ≡ false) → ¬ IsKnown row.word → order_fault {A = Abc} (faults v i) row after ≡ Err (fault row.number reasons.Word)
   unknown_placed row after whole once unknown =
       let p = word_own row.word unknown row after in
       word_placed row after (word_alone row after whole (once p.3) p.0 p.1 p.2)
 
-  pub broken_placed : (row : Row) (after : List Row) → row.broken ≡ true → misplaced {A = Abc} (faults v i) row after ≡ Err (fault row.number reasons.Text)
+  pub broken_placed : (row : Row) (after : List Row) → row.broken ≡ true → order_fault {A = Abc} (faults v i) row after ≡ Err (fault row.number reasons.Text)
   broken_placed row after e = ap (λ (o : Option AsmReason). wrong row.number (lesser reasons.Order o)) (broken_least v i row after e)

@@ -9,7 +9,7 @@ use Rattle.abc_file_types.specs.declared.tables.Abc.{Abc}
 use Rattle.abc_file_types.specs.declared.tables.Sizes.{Sizes}
 use Rattle.abc_tables.specs.Lengths.{file_len}
 use Rattle.abc_tables.proofs.CanonicalLength.{file-len}
-use Rattle.abc_text_lines.specs.Assembly.{ended, misplaced}
+use Rattle.abc_text_lines.specs.Assembly.{end_or_fault, order_fault}
 use Rattle.abc_text_lines.specs.Lines.{Row}
 use Rattle.abc_text_lines.specs.Rows.{Fault, Faults, fault, ◌>>=◌}
 use Rattle.abc_text_lines.specs.File.{faults}
@@ -17,9 +17,9 @@ use Rattle.abc_text_lines.specs.Texts.{instances_in, rows_of, sizes_in}
 use Rattle.abc_text_reader.specs.declared.error.AsmError.{AsmError}
 use Rattle.abc_text_reader.specs.declared.error.AsmError.TheVariants as errors
 use Rattle.abc_text_reader.specs.declared.reader.Reader.{Reader}
-use Rattle.abc_text_reader.specs.Parts.{Gives, ReadsPart}
+use Rattle.abc_text_reader.specs.Parts.{GivesPart, ReadsTextPart}
 use Rattle.abc_text_reader.specs.Reading.{Goes, rows_left, word_next}
-use Rattle.abc_asm.specs.Whole.{Assembles, IsMisplaced, ReadsVersion, begun, file_read, text_read}
+use Rattle.abc_asm.specs.Whole.{Assembles, IsMisplaced, ReadsVersion, rows_after_version, file_part_read, text_read}
 use Rattle.abc_asm.proofs.Answered.{read_fault, read_long, read_short}
 
 abbrev Next : Type 0
@@ -55,13 +55,13 @@ module _ (text : List ℕ) (r0 : Reader) (is : rows_left r0 ≡ rows_of text) (s
   told = faults s i
 
   abbrev last : Next
-  last left = file_read s i (length rs) left >>= λ x. ended told x
+  last left = file_part_read s i (length rs) left >>= λ x. end_or_fault told x
 
-  start : (next : Next) → begun (faults r0.sizes r0.instances) (rows_left r0) next ≡ begun told rs next
+  start : (next : Next) → rows_after_version (faults r0.sizes r0.instances) (rows_left r0) next ≡ rows_after_version told rs next
   start next =
-      ap (λ (v : Sizes). begun (faults v r0.instances) (rows_left r0) next) sizes
-      ∙ ap (λ (n : ℕ). begun (faults s n) (rows_left r0) next) instances
-      ∙ ap (λ (l : List Row). begun told l next) is
+      ap (λ (v : Sizes). rows_after_version (faults v r0.instances) (rows_left r0) next) sizes
+      ∙ ap (λ (n : ℕ). rows_after_version (faults s n) (rows_left r0) next) instances
+      ∙ ap (λ (l : List Row). rows_after_version told l next) is
 
   pub version_fault : (r1 : Reader) (d : AsmError) → ReadsVersion r0 r1 (Err d) → Assembles text (Err d)
   version_fault r1 (errors.Refused line reason) version = read_fault text (fault line reason) (sym (start last) ∙ version last)
@@ -71,35 +71,35 @@ module _ (text : List ℕ) (r0 : Reader) (is : rows_left r0 ≡ rows_of text) (s
     at_file : text_read text ≡ last (rows_left r1)
     at_file = sym (start last) ∙ version last
 
-    file_at : (r2 : Reader) (result : Result Abc AsmError) → ReadsPart file_read r1 r2 result → Gives (rows_left r2) result (file_read s i (length rs) (rows_left r1))
+    file_at : (r2 : Reader) (result : Result Abc AsmError) → ReadsTextPart file_part_read r1 r2 result → GivesPart (rows_left r2) result (file_part_read s i (length rs) (rows_left r1))
     file_at r2 result reads =
         let fewer = goes.fewer in
         let all : length (rows_left r0) ≡ length rs = ap (λ (l : List Row). length l) is in
-        subst (λ (n : ℕ). Gives (rows_left r2) result (file_read s n (length rs) (rows_left r1))) (goes.instances ∙ instances)
-        (subst (λ (v : Sizes). Gives (rows_left r2) result (file_read v r1.instances (length rs) (rows_left r1))) (goes.sizes ∙ sizes) (reads (length rs) (omega arith)))
+        subst (λ (n : ℕ). GivesPart (rows_left r2) result (file_part_read s n (length rs) (rows_left r1))) (goes.instances ∙ instances)
+        (subst (λ (v : Sizes). GivesPart (rows_left r2) result (file_part_read v r1.instances (length rs) (rows_left r1))) (goes.sizes ∙ sizes) (reads (length rs) (omega arith)))
 
     abbrev then_ended : Result (Abc × List Row) Fault → Result Abc Fault
-    then_ended r = r >>= λ x. ended told x
+    then_ended r = r >>= λ x. end_or_fault told x
 
-    pub file_fault : (r2 : Reader) (d : AsmError) → ReadsPart file_read r1 r2 (Err d) → Assembles text (Err d)
+    pub file_fault : (r2 : Reader) (d : AsmError) → ReadsTextPart file_part_read r1 r2 (Err d) → Assembles text (Err d)
     file_fault r2 (errors.Refused line reason) reads = read_fault text (fault line reason) (at_file ∙ ap then_ended (file_at r2 (Err (errors.Refused line reason)) reads))
     file_fault r2 errors.NoMemory reads = tt
 
-    module _ (r2 : Reader) (abc : Abc) (reads : ReadsPart file_read r1 r2 (Ok abc)) (goes_on : Goes r1 r2) where
-      at_end : text_read text ≡ ended told (abc, rows_left r2)
+    module _ (r2 : Reader) (abc : Abc) (reads : ReadsTextPart file_part_read r1 r2 (Ok abc)) (goes_on : Goes r1 r2) where
+      at_end : text_read text ≡ end_or_fault told (abc, rows_left r2)
       at_end = at_file ∙ ap then_ended (file_at r2 (Ok abc) reads)
 
       pub more_fault : (d : AsmError) → IsSome (word_next (rows_left r2)) → IsMisplaced r2 d → Assembles text (Err d)
       more_fault (errors.Refused line reason) some placed =
           let p = some_row (rows_left r2) some in
-          let here : misplaced {A = Abc} told p.0 p.1 ≡ Err (fault line reason) =
-          subst (λ (n : ℕ). misplaced {A = Abc} (faults s n) p.0 p.1 ≡ Err (fault line reason)) (goes_on.instances ∙ goes.instances ∙ instances)
-          (subst (λ (v : Sizes). misplaced {A = Abc} (faults v r2.instances) p.0 p.1 ≡ Err (fault line reason)) (goes_on.sizes ∙ goes.sizes ∙ sizes) (placed p.0 p.1 p.2)) in
-          read_fault text (fault line reason) (at_end ∙ ap (λ (l : List Row). ended told (abc, l)) p.2 ∙ here)
+          let here : order_fault {A = Abc} told p.0 p.1 ≡ Err (fault line reason) =
+          subst (λ (n : ℕ). order_fault {A = Abc} (faults s n) p.0 p.1 ≡ Err (fault line reason)) (goes_on.instances ∙ goes.instances ∙ instances)
+          (subst (λ (v : Sizes). order_fault {A = Abc} (faults v r2.instances) p.0 p.1 ≡ Err (fault line reason)) (goes_on.sizes ∙ goes.sizes ∙ sizes) (placed p.0 p.1 p.2)) in
+          read_fault text (fault line reason) (at_end ∙ ap (λ (l : List Row). end_or_fault told (abc, l)) p.2 ∙ here)
       more_fault errors.NoMemory some placed = tt
 
       whole : word_next (rows_left r2) ≡ None → text_read text ≡ Ok abc
-      whole none = at_end ∙ ap (λ (l : List Row). ended told (abc, l)) (no_rows (rows_left r2) none)
+      whole none = at_end ∙ ap (λ (l : List Row). end_or_fault told (abc, l)) (no_rows (rows_left r2) none)
 
       pub fine : (len : ℕ) → word_next (rows_left r2) ≡ None → len ≡ min (file_len abc) (2 ^ 64 - 1) → len ≤ 2 ^ 24 → Assembles text (Ok abc)
       fine len none is_len le = let bytes = file-len abc in read_short text abc (whole none) (omega arith)

@@ -1,9 +1,9 @@
 //! A text as a whole.
 ghost use Rattle.std.specs.Prelude.{◌≡◌, ◌<◌, ◌^◌, IfOk, IsSome, length};
-ghost use Rattle.abc_text_reader.specs.Parts.{ReadsPart};
+ghost use Rattle.abc_text_reader.specs.Parts.{ReadsTextPart};
 ghost use Rattle.abc_text_reader.specs.Reading.{Goes, IsReader, rows_left, word_next};
 ghost use Rattle.abc_text_lines.specs.Texts.{instances_in, rows_of, sizes_in};
-ghost use Rattle.abc_asm.specs.Whole.{Assembles, IsMisplaced, ReadsVersion, definitions_read, file_read, out_of_order, pools_read};
+ghost use Rattle.abc_asm.specs.Whole.{Assembles, IsMisplaced, ReadsVersion, definitions_read, file_part_read, out_of_order, pools_read};
 
 use crate::bodies::read_bodies;
 use crate::classes::{Classes, Instances};
@@ -53,7 +53,7 @@ pub struct Definitions {
 fn read_pools(reader: &mut Reader<'_>) -> Result<Pools, AsmError>
     requires { IsReader reader.old }
     ensures goes { IfOk result (λ x. Goes reader.old reader.new) }
-    ensures reads { ReadsPart pools_read reader.old reader.new result }
+    ensures reads { ReadsTextPart pools_read reader.old reader.new result }
 {
     let ints = read_flat::<Ints>(reader)?;
     let uints = read_flat::<UInts>(reader)?;
@@ -77,7 +77,7 @@ fn read_pools(reader: &mut Reader<'_>) -> Result<Pools, AsmError>
 fn read_definitions(reader: &mut Reader<'_>) -> Result<Definitions, AsmError>
     requires { IsReader reader.old }
     ensures goes { IfOk result (λ x. Goes reader.old reader.new) }
-    ensures reads { ReadsPart definitions_read reader.old reader.new result }
+    ensures reads { ReadsTextPart definitions_read reader.old reader.new result }
 {
     let methods = read_all::<Methods>(reader)?;
     let metadata = read_all::<MetadataLines>(reader)?;
@@ -99,7 +99,7 @@ fn read_definitions(reader: &mut Reader<'_>) -> Result<Definitions, AsmError>
 fn read_file(reader: &mut Reader<'_>) -> Result<Abc, AsmError>
     requires { IsReader reader.old }
     ensures goes { IfOk result (λ x. Goes reader.old reader.new) }
-    ensures reads { ReadsPart file_read reader.old reader.new result }
+    ensures reads { ReadsTextPart file_part_read reader.old reader.new result }
 {
     let pools = read_pools(reader)?;
     let definitions = read_definitions(reader)?;

@@ -3,7 +3,7 @@ ghost use Rattle.std.specs.Prelude.{◌≡◌, ◌<◌, ◌-◌, ◌^◌, ◌&&�
 ghost use Rattle.abc_text_lines.specs.declared.word.Word.TheVariants as words;
 ghost use Rattle.abc_file_types.specs.CodeBytes.{code_len as total};
 ghost use Rattle.abc_text_lines.specs.File.{ends_body};
-ghost use Rattle.abc_text_reader.specs.Parts.{ComesNext, ReadsItem, ReadsPart, all_items};
+ghost use Rattle.abc_text_reader.specs.Parts.{ComesNext, ReadsItem, ReadsTextPart, all_items};
 ghost use Rattle.abc_text_reader.specs.Reading.{Goes, IsReader, rows_left};
 ghost use Rattle.abc_asm.specs.Below.{body_below, body_item};
 
@@ -34,7 +34,7 @@ pub struct BodyBelow {
 pub fn read_bodies(reader: &mut Reader<'_>) -> Result<Table<Body>, AsmError>
     requires { IsReader reader.old }
     ensures goes { IfOk result (λ xs. Goes reader.old reader.new) }
-    ensures reads { ReadsPart (all_items words.Body body_item) reader.old reader.new result }
+    ensures reads { ReadsTextPart (all_items words.Body body_item) reader.old reader.new result }
 {
     let mut bodies = Table::new(reader.alloc);
     let mut gathering = Gathering::new(reader.alloc);
@@ -75,7 +75,8 @@ fn read_body(reader: &mut Reader<'_>, gathering: &mut Gathering) -> Result<Body,
 
 /// Whether the lines of a body end before the next line, and its code, of this length, is too long.
 fn is_too_long(reader: &Reader<'_>, len: u64) -> bool
-    ensures { result ≡ (ends_body reader.now.sizes reader.now.instances (rows_left reader.now) && nat_le (2 ^ 23) len) }
+    ensures { result
+        ≡ (ends_body reader.now.sizes reader.now.instances (rows_left reader.now) && nat_le (2 ^ 23) len) }
 {
     let is_last = ends(reader);
     is_last && len >= CODE_LIMIT
@@ -95,7 +96,7 @@ fn ends(reader: &Reader<'_>) -> bool
 fn read_below(reader: &mut Reader<'_>, gathering: &mut Gathering) -> Result<BodyBelow, AsmError>
     requires { IsReader reader.old }
     ensures goes { IfOk result (λ x. Goes reader.old reader.new) }
-    ensures reads { ReadsPart body_below reader.old reader.new result }
+    ensures reads { ReadsTextPart body_below reader.old reader.new result }
     ensures len { IfOk result (λ below. gathering.new.len ≡ min (total below.code) (2 ^ 64 - 1)) }
 {
     let code = read_code(reader, gathering)?;

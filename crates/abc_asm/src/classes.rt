@@ -2,9 +2,9 @@
 ghost use Rattle.std.specs.Prelude.{◌≡◌, IfOk, refl};
 ghost use Rattle.abc_text_lines.specs.declared.word.Word.TheVariants as words;
 ghost use Rattle.abc_text_lines.specs.File.{instance_counts};
-ghost use Rattle.abc_text_reader.specs.Parts.{ReadsPart};
+ghost use Rattle.abc_text_reader.specs.Parts.{ReadsTextPart};
 ghost use Rattle.abc_text_reader.specs.Reading.{Goes, IsReader, rows_left};
-ghost use Rattle.abc_asm.specs.Below.{class_of, initializer_below, instance_below, instance_of, instance_value, method_index_value, traits_below};
+ghost use Rattle.abc_asm.specs.Below.{class_from_below, initializer_below, instance_below, instance_from_below, instance_value, method_index_value, traits_below};
 
 use crate::coming::comes;
 use crate::counted::{where_set, with_fault};
@@ -24,7 +24,8 @@ const BELOW_INSTANCE: [u8; 7] = [15, 16, 17, 18, 19, 23, 25];
 /// Whether the lines below an instance that was taken are as its flags ask for, and it has a class.
 fn are_counted(reader: &Reader<'_>, flags: u8) -> bool
     requires { IsReader reader.now }
-    ensures { result ≡ instance_counts reader.now.sizes.classes reader.now.instances flags (rows_left reader.now) }
+    ensures { result
+        ≡ instance_counts reader.now.sizes.classes reader.now.instances flags (rows_left reader.now) }
 {
     let spaces = reader.count(&BELOW_INSTANCE, 15);
     let initializers = reader.count(&BELOW_INSTANCE, 17);
@@ -58,7 +59,7 @@ impl Headed for Instances {
 
     ghost lower = { instance_below };
 
-    ghost whole = { instance_of };
+    ghost whole = { instance_from_below };
 
     fn word() -> Word {
         Word::Instance
@@ -105,7 +106,7 @@ impl Headed for Instances {
 fn read_initializer(reader: &mut Reader<'_>) -> Result<(u32, Table<TraitInfo>), AsmError>
     requires { IsReader reader.old }
     ensures goes { IfOk result (λ x. Goes reader.old reader.new) }
-    ensures reads { ReadsPart initializer_below reader.old reader.new result }
+    ensures reads { ReadsTextPart initializer_below reader.old reader.new result }
 {
     if comes(reader, Word::Initializer) {
         read_item::<Initializers>(reader)
@@ -130,7 +131,7 @@ impl Headed for Classes {
 
     ghost lower = { traits_below };
 
-    ghost whole = { class_of };
+    ghost whole = { class_from_below };
 
     fn word() -> Word {
         Word::Class

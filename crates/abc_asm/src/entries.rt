@@ -1,6 +1,6 @@
 //! The entries of metadata.
 ghost use Rattle.std.specs.Prelude.{◌≡◌, IfOk};
-ghost use Rattle.abc_text_lines.specs.Answers.{joined as joined_of};
+ghost use Rattle.abc_text_lines.specs.Answers.{flat_pairs as joined_of};
 
 use abc_base::{NoMemory, Table};
 use std::alloc::Global;

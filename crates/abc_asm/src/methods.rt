@@ -2,9 +2,9 @@
 ghost use Rattle.std.specs.Prelude.{◌≡◌, ◌&&◌, IfOk, refl};
 ghost use Rattle.abc_text_lines.specs.declared.word.Word.TheVariants as words;
 ghost use Rattle.abc_text_lines.specs.File.{method_counts};
-ghost use Rattle.abc_text_reader.specs.Parts.{ReadsPart};
+ghost use Rattle.abc_text_reader.specs.Parts.{ReadsTextPart};
 ghost use Rattle.abc_text_reader.specs.Reading.{Goes, IsReader, rows_left};
-ghost use Rattle.abc_asm.specs.Below.{metadata_below, metadata_of, metadata_value, method_below, method_of, method_value};
+ghost use Rattle.abc_asm.specs.Below.{metadata_below, metadata_from_below, metadata_value, method_below, method_from_below, method_value};
 
 use crate::counted::{where_set, with_fault};
 use crate::entries::joined;
@@ -64,7 +64,7 @@ impl Headed for Methods {
 
     ghost lower = { method_below };
 
-    ghost whole = { method_of };
+    ghost whole = { method_from_below };
 
     fn word() -> Word {
         Word::Method
@@ -120,7 +120,7 @@ impl Headed for MetadataLines {
 
     ghost lower = { metadata_below };
 
-    ghost whole = { metadata_of };
+    ghost whole = { metadata_from_below };
 
     fn word() -> Word {
         Word::Metadata

@@ -1,7 +1,7 @@
 //! Initializers and scripts, with their traits.
 ghost use Rattle.std.specs.Prelude.{refl};
 ghost use Rattle.abc_text_lines.specs.declared.word.Word.TheVariants as words;
-ghost use Rattle.abc_asm.specs.Below.{initializer_of, method_index_value, script_of, traits_below};
+ghost use Rattle.abc_asm.specs.Below.{initializer_of, method_index_value, script_from_below, traits_below};
 
 use crate::traits::Traits;
 use abc_base::Table;
@@ -65,7 +65,7 @@ impl Headed for Scripts {
 
     ghost lower = { traits_below };
 
-    ghost whole = { script_of };
+    ghost whole = { script_from_below };
 
     fn word() -> Word {
         Word::Script

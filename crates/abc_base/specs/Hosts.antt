@@ -8,8 +8,8 @@ use Rattle.abc_base.specs.declared.plain.Plain.{Plain}
 -- ---- what a formula gives
 
 -- the numbers that a call hands over
-abbrev pub arguments : Plain → List ℤ
-arguments args = take args.count (args.a ∷ args.b ∷ args.c ∷ args.d ∷ [])
+abbrev pub plain_arguments : Plain → List ℤ
+plain_arguments args = take args.count (args.a ∷ args.b ∷ args.c ∷ args.d ∷ [])
 
 -- the sum of x times y over the pairs of two lists
 abbrev pub sum_of_products : List ℤ → List ℤ → ℤ
@@ -27,7 +27,7 @@ number_or_none z = if int_le (negsuc 2147483647) z && int_le z (pos 4294967295) 
 
 -- what a call of a formula gives
 abbrev pub answer_of : Formula → Plain → Option ℤ
-answer_of formula args = number_or_none (value_of formula (arguments args))
+answer_of formula args = number_or_none (value_of formula (plain_arguments args))
 
 -- the formula of a number, and one with nothing past the list's end
 abbrev pub formula_at : List Formula → ℕ → Formula

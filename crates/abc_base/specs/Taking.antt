@@ -9,7 +9,7 @@ abbrev pub TakesAtMost : Option (List ℕ) → Option (List ℕ) → ℕ → Typ
 TakesAtMost old new most = (taken : List ℕ) × Consumes old new taken × (length taken ≤ most)
 
 -- Some bytes were taken and appended, at most so many; or none, at the input's end. Where there is an Err they are lost.
-abbrev pub Moves : {E : Type 0} → Option (List ℕ) → Option (List ℕ) → ℕ → List ℕ → List ℕ → Result Bool E → Type 0
-Moves old new most before after (Ok true) = (taken : List ℕ) × Consumes old new taken × (0 < length taken) × (length taken ≤ most) × (after ≡ before ++ taken)
-Moves old new most before after (Ok false) = Consumes old new [] × (after ≡ before) × IsAtEnd new
-Moves old new most before after (Err e) = TakesAtMost old new most
+abbrev pub MovesBytes : {E : Type 0} → Option (List ℕ) → Option (List ℕ) → ℕ → List ℕ → List ℕ → Result Bool E → Type 0
+MovesBytes old new most before after (Ok true) = (taken : List ℕ) × Consumes old new taken × (0 < length taken) × (length taken ≤ most) × (after ≡ before ++ taken)
+MovesBytes old new most before after (Ok false) = Consumes old new [] × (after ≡ before) × IsAtEnd new
+MovesBytes old new most before after (Err e) = TakesAtMost old new most

@@ -4,7 +4,7 @@
 ghost use Rattle.std.specs.Prelude.{◌≡◌, ◌<◌};
 ghost use Rattle.abc_base.specs.Faults.{HasCause};
 ghost use Rattle.abc_base.specs.Sinks.{WritesAll};
-ghost use Rattle.abc_base.specs.Escapes.{escape_of, escaped, hex_digit as hex_digit_of, is_plain as is_plain_byte};
+ghost use Rattle.abc_base.specs.Escapes.{escape_of, with_escapes, hex_digit as hex_digit_of, is_plain_byte};
 
 use crate::sink::{Sink, write_all};
 use crate::source::Failed;
@@ -35,9 +35,9 @@ fn write_escape<K: Sink>(out: &mut K, byte: u8) -> Result<(), Failed>
 
 /// Writes bytes as they are shown. After `Failed` the front of that was written, and it comes only where the count of
 /// faults rose or stood at its last value. It takes no memory.
-#[tactic(auto, unfolding(crate::specs::Escapes::escaped), using(crate::proofs::Writing::writing))]
+#[tactic(auto, unfolding(crate::specs::Escapes::with_escapes), using(crate::proofs::Writing::writing))]
 pub fn write_escaped<K: Sink>(out: &mut K, bytes: &[u8]) -> Result<(), Failed>
-    ensures bytes { WritesAll (K.written out.old) (K.written out.new) result (escaped bytes.now) }
+    ensures bytes { WritesAll (K.written out.old) (K.written out.new) result (with_escapes bytes.now) }
     ensures cause { HasCause (K.faults out.old) (K.faults out.new) result }
 {
     for byte in bytes {

@@ -32,9 +32,17 @@ impl Model for MemSink {
 
     ghost Value = { MemSinkView };
 
-    ghost view = { λ s. record { taken = s.bytes.items; room = s.room; piece = s.piece; calls = s.calls; failing = s.failing.items; faults = s.faults } };
+    ghost view = { λ s. record {
+      taken = s.bytes.items;
+      room = s.room;
+      piece = s.piece;
+      calls = s.calls;
+      failing = s.failing.items;
+      faults = s.faults;
+    } };
 
-    ghost invariant = { λ s. (length s.bytes.items ≤ s.room) × (s.room ≤ vec_capacity s.bytes) × (0 < s.piece) };
+    ghost invariant = { λ s. (length s.bytes.items ≤ s.room) × (s.room ≤ vec_capacity s.bytes)
+        × (0 < s.piece) };
 }
 
 impl MemSink {
@@ -42,7 +50,9 @@ impl MemSink {
     /// from 0, of the calls that fail. `NoMemory` where memory ran out.
     pub fn new(alloc: Global, room: usize, piece: usize, fail: &[u32]) -> Result<MemSink, NoMemory>
         requires { 0 < piece }
-        ensures { IfOk result (λ s. s ≡ record { taken = []; room = room; piece = piece; calls = 0; failing = fail.now; faults = 0 }) }
+        ensures { IfOk result (λ s. s
+            ≡ record
+            { taken = []; room = room; piece = piece; calls = 0; failing = fail.now; faults = 0 }) }
     {
         let failing = Vec::from_slice(alloc, fail)?;
         let bytes = Vec::with_capacity(alloc, room)?;
@@ -74,10 +84,16 @@ impl Sink for MemSink {
         ensures some { 0 < length piece.now → IfOk result (λ n. 0 < n) }
         ensures bytes { WriteAppends (Some self.old.taken) (Some self.new.taken) result piece.now }
         ensures cause { HasCause self.old.faults self.new.faults result }
-        ensures fails { IsErr result ↔ (Contains self.old.failing self.old.calls ⊎ ((0 < length piece.now) × (length self.old.taken ≡ self.old.room))) }
-        ensures count { IfOk result (λ n. n ≡ min (min (length piece.now) self.old.piece) (self.old.room - length self.old.taken)) }
-        ensures ok { IfOk result (λ n. self.new ≡ record self.old { taken = self.old.taken ++ take n piece.now; calls = one_more self.old.calls }) }
-        ensures err { OnErr result (self.new ≡ record self.old { calls = one_more self.old.calls; faults = one_more self.old.faults }) }
+        ensures fails { IsErr result
+            ↔ (Contains self.old.failing self.old.calls
+            ⊎ ((0 < length piece.now) × (length self.old.taken ≡ self.old.room))) }
+        ensures count { IfOk result
+            (λ n. n ≡ min (min (length piece.now) self.old.piece) (self.old.room - length self.old.taken)) }
+        ensures ok { IfOk result (λ n. self.new
+            ≡ record self.old
+            { taken = self.old.taken ++ take n piece.now; calls = one_more self.old.calls }) }
+        ensures err { OnErr result (self.new
+            ≡ record self.old { calls = one_more self.old.calls; faults = one_more self.old.faults }) }
     {
         let fails = is_failing(self.failing.as_slice(), self.calls);
         self.calls = raised(self.calls);
@@ -151,11 +167,13 @@ impl<W: Writer + Drop> Sink for StdSink<W> {
     fn write(&mut self, piece: &[u8]) -> Result<usize, Failed>
         ensures bound { WritesAtMost result piece.now }
         ensures some { 0 < length piece.now → IfOk result (λ n. 0 < n) }
-        ensures bytes { WriteAppends (W.contents self.old.inner) (W.contents self.new.inner) result piece.now }
+        ensures bytes { WriteAppends (W.contents self.old.inner) (W.contents self.new.inner) result
+            piece.now }
         ensures cause { HasCause self.old.faults self.new.faults result }
         ensures ok { OnOk result (self.new.faults ≡ self.old.faults) }
         ensures err { OnErr result (self.new.faults ≡ one_more self.old.faults) }
-        ensures passes { PassesWriting (λ answer. W.may_answer self.old.inner piece.now answer self.new.inner) piece.now result }
+        ensures passes { PassesWriting (λ answer. W.may_answer self.old.inner piece.now answer self.new.inner)
+            piece.now result }
     {
         match self.inner.write_some(piece) {
             Ok(count) if count > 0 || piece.is_empty() => Ok(count),

@@ -97,7 +97,13 @@ impl Model for MemSource {
 
     ghost Value = { MemSourceView };
 
-    ghost view = { λ s. record { left = drop s.at s.bytes.items; piece = s.piece; calls = s.calls; failing = s.failing.items; faults = s.faults } };
+    ghost view = { λ s. record {
+      left = drop s.at s.bytes.items;
+      piece = s.piece;
+      calls = s.calls;
+      failing = s.failing.items;
+      faults = s.faults;
+    } };
 
     ghost invariant = { λ s. (s.at ≤ length s.bytes.items) × (0 < s.piece) };
 }
@@ -112,7 +118,8 @@ impl MemSource {
         fail: &[u32],
     ) -> Result<MemSource, NoMemory>
         requires { 0 < piece }
-        ensures { IfOk result (λ s. s ≡ record { left = bytes.now; piece = piece; calls = 0; failing = fail.now; faults = 0 }) }
+        ensures { IfOk result
+            (λ s. s ≡ record { left = bytes.now; piece = piece; calls = 0; failing = fail.now; faults = 0 }) }
     {
         let bytes = Vec::from_slice(alloc, bytes)?;
         let failing = Vec::from_slice(alloc, fail)?;
@@ -137,9 +144,12 @@ impl Source for MemSource {
         ensures bytes { ReadConsumes (Some self.old.left) (Some self.new.left) result into.new }
         ensures cause { HasCause self.old.faults self.new.faults result }
         ensures fails { IsErr result ↔ Contains self.old.failing self.old.calls }
-        ensures count { IfOk result (λ n. n ≡ min (min (length self.old.left) self.old.piece) (length into.new)) }
-        ensures ok { IfOk result (λ n. self.new ≡ record self.old { left = drop n self.old.left; calls = one_more self.old.calls }) }
-        ensures err { OnErr result (self.new ≡ record self.old { calls = one_more self.old.calls; faults = one_more self.old.faults }) }
+        ensures count { IfOk result
+            (λ n. n ≡ min (min (length self.old.left) self.old.piece) (length into.new)) }
+        ensures ok { IfOk result (λ n. self.new
+            ≡ record self.old { left = drop n self.old.left; calls = one_more self.old.calls }) }
+        ensures err { OnErr result (self.new
+            ≡ record self.old { calls = one_more self.old.calls; faults = one_more self.old.faults }) }
     {
         let fails = is_failing(self.failing.as_slice(), self.calls);
         self.calls = raised(self.calls);
@@ -186,11 +196,13 @@ impl<R: Reader + Drop> Source for StdSource<R> {
 
     fn read(&mut self, into: &mut [u8]) -> Result<usize, Failed>
         ensures bound { ReadsAtMost result into.new }
-        ensures bytes { ReadConsumes (R.remaining self.old.inner) (R.remaining self.new.inner) result into.new }
+        ensures bytes { ReadConsumes (R.remaining self.old.inner) (R.remaining self.new.inner) result
+            into.new }
         ensures cause { HasCause self.old.faults self.new.faults result }
         ensures ok { OnOk result (self.new.faults ≡ self.old.faults) }
         ensures err { OnErr result (self.new.faults ≡ one_more self.old.faults) }
-        ensures passes { PassesReading (λ answer. R.may_answer self.old.inner into.new answer self.new.inner) result }
+        ensures passes { PassesReading (λ answer. R.may_answer self.old.inner into.new answer self.new.inner)
+            result }
     {
         match self.inner.read_some(into) {
             Ok(count) => Ok(count),

@@ -25,7 +25,8 @@ pub trait Reader {
 impl<R: Read> Reader for R {
     ghost remaining = { R.remaining };
 
-    ghost may_answer = { λ reader into answer after. ReadsAtMost answer into × ReadConsumes (R.remaining reader) (R.remaining after) answer into };
+    ghost may_answer = { λ reader into answer after. ReadsAtMost answer into
+        × ReadConsumes (R.remaining reader) (R.remaining after) answer into };
 
     fn read_some(&mut self, into: &mut [u8]) -> io::Result<usize> {
         self.read(into)
@@ -50,7 +51,8 @@ pub trait Writer {
 impl<W: Write> Writer for W {
     ghost contents = { W.contents };
 
-    ghost may_answer = { λ writer piece answer after. WritesAtMost answer piece × WriteAppends (W.contents writer) (W.contents after) answer piece };
+    ghost may_answer = { λ writer piece answer after. WritesAtMost answer piece
+        × WriteAppends (W.contents writer) (W.contents after) answer piece };
 
     fn write_some(&mut self, piece: &[u8]) -> io::Result<usize> {
         self.write(piece)

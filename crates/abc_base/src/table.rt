@@ -163,7 +163,8 @@ impl<T: Copy + Drop> Table<T> {
     /// Adds one value so often at the end that there are so many values, or takes those beyond them away. Where memory runs out
     /// the list stays as it was.
     pub fn resize(&mut self, count: usize, value: T) -> Result<(), NoMemory>
-        ensures ok { OnOk result (self.new ≡ take count self.old ++ replicate (count - length self.old) value) }
+        ensures ok { OnOk result
+            (self.new ≡ take count self.old ++ replicate (count - length self.old) value) }
         ensures err { OnErr result (self.new ≡ self.old) }
     {
         self.items.resize(count, value)?;

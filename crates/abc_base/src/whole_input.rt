@@ -1,7 +1,7 @@
 ghost use Rattle.std.specs.Prelude.{◌≡◌, ◌≤◌, ◌<◌, ◌+◌, ◌++◌, Err, IfOk, IfSome, OnOk, length};
 ghost use Rattle.std.specs.Io.KnownBytes.{Consumes, IsAtEnd};
 ghost use Rattle.abc_base.specs.Faults.{Rose};
-ghost use Rattle.abc_base.specs.Taking.{Moves, TakesAtMost};
+ghost use Rattle.abc_base.specs.Taking.{MovesBytes, TakesAtMost};
 ghost use Rattle.abc_base.specs.declared.input_error.InputError.{InputError};
 
 use crate::input_error::InputError;
@@ -15,7 +15,8 @@ fn read_more<S: Source>(
     bytes: &mut Vec<u8>,
 ) -> Result<bool, InputError>
     requires { 0 < room }
-    ensures moves { Moves (S.left source.old) (S.left source.new) room bytes.old.items bytes.new.items result }
+    ensures moves { MovesBytes (S.left source.old) (S.left source.new) room bytes.old.items bytes.new.items
+        result }
     ensures later { S.faults source.old ≤ S.faults source.new }
     ensures cause { result ≡ Err InputError.ReadFault → Rose (S.faults source.old) (S.faults source.new) }
     ensures fits { result ≡ Err InputError.TooLong → ⊥ }
@@ -37,7 +38,8 @@ pub fn read_input<S: Source>(
     ensures bytes { IfOk result (λ bytes. Consumes (S.left source.old) (S.left source.new) bytes.items) }
     ensures short { IfOk result (λ bytes. length bytes.items ≤ most) }
     ensures end { OnOk result (IsAtEnd (S.left source.new)) }
-    ensures long { result ≡ Err InputError.TooLong → IfSome (S.left source.old) (λ input. most < length input) }
+    ensures long { result ≡ Err InputError.TooLong
+        → IfSome (S.left source.old) (λ input. most < length input) }
     ensures taken { TakesAtMost (S.left source.old) (S.left source.new) (most + 1) }
     ensures later { S.faults source.old ≤ S.faults source.new }
     ensures cause { result ≡ Err InputError.ReadFault → Rose (S.faults source.old) (S.faults source.new) }

@@ -6,8 +6,8 @@ use Rattle.std.proofs.lemmas.Bool.{cases_lt}
 use Rattle.std.proofs.lemmas.List.{get_or_append_left, get_or_push, append-nil, reverse-append}
 use Rattle.abc_base_graphs.specs.Ways.{way, IsFalling}
 use Rattle.abc_base_graphs.proofs.Walks.{way_none, way_some}
-use Rattle.abc_base_graphs.specs.Listed.{Listed, empty, joined}
-use Rattle.abc_base_graphs.specs.Heirs.{list_at, inherited, heritage, AreHeirs}
+use Rattle.abc_base_graphs.specs.Listed.{Listed, empty_list, both_lists}
+use Rattle.abc_base_graphs.specs.Heirs.{list_at, list_of_base, heritage, AreHeirs}
 
 flat_map-append : {X A : Type 0} (f : X → List A) (xs ys : List X) → flat_map f (xs ++ ys) ≡ flat_map f xs ++ flat_map f ys
 flat_map-append f [] ys = refl
@@ -28,16 +28,16 @@ module _ {T : Type 0} (next : ℕ → Option ℕ) (values : ℕ → List T) (key
   pub no_heirs : AreHeirs next values keys []
   no_heirs = record { values_of = λ l lt. absurd (omega arith); keys_of = λ l lt. absurd (omega arith) }
 
-  inherited_values : (lists : List (Listed T)) → AreHeirs next values keys lists → (base : Option ℕ) → ((b : ℕ) → base ≡ Some b → b < length lists) → (inherited lists base).values ≡ heritage next values base
+  inherited_values : (lists : List (Listed T)) → AreHeirs next values keys lists → (base : Option ℕ) → ((b : ℕ) → base ≡ Some b → b < length lists) → (list_of_base lists base).values ≡ heritage next values base
   inherited_values lists h None known = sym (heritage_none next values)
   inherited_values lists h (Some b) known = h.values_of b (known b refl)
 
-  inherited_keys : (lists : List (Listed T)) → AreHeirs next values keys lists → (base : Option ℕ) → ((b : ℕ) → base ≡ Some b → b < length lists) → (inherited lists base).keys ≡ heritage next keys base
+  inherited_keys : (lists : List (Listed T)) → AreHeirs next values keys lists → (base : Option ℕ) → ((b : ℕ) → base ≡ Some b → b < length lists) → (list_of_base lists base).keys ≡ heritage next keys base
   inherited_keys lists h None known = sym (heritage_none next keys)
   inherited_keys lists h (Some b) known = h.keys_of b (known b refl)
 
   -- one list more
-  pub heirs_next : (lists : List (Listed T)) (own : Listed T) → AreHeirs next values keys lists → own.values ≡ values (length lists) → own.keys ≡ keys (length lists) → AreHeirs next values keys (lists ++ joined (inherited lists (next (length lists))) own ∷ [])
+  pub heirs_next : (lists : List (Listed T)) (own : Listed T) → AreHeirs next values keys lists → own.values ≡ values (length lists) → own.keys ≡ keys (length lists) → AreHeirs next values keys (lists ++ both_lists (list_of_base lists (next (length lists))) own ∷ [])
   heirs_next lists own h is_values is_keys = record {
     values_of = λ l lt. values_of l lt (cases_lt l (length lists));
     keys_of = λ l lt. keys_of l lt (cases_lt l (length lists));
@@ -50,7 +50,7 @@ module _ {T : Type 0} (next : ℕ → Option ℕ) (values : ℕ → List T) (key
       base = next n
 
       new : Listed T
-      new = joined (inherited lists base) own
+      new = both_lists (list_of_base lists base) own
 
       known : (b : ℕ) → base ≡ Some b → b < length lists
       known b e = falling.falls n b e
@@ -67,13 +67,13 @@ module _ {T : Type 0} (next : ℕ → Option ℕ) (values : ℕ → List T) (key
       is_last l lt le = omega (arith, length-append lists (new ∷ []))
 
       values_of : (l : ℕ) → l < length (lists ++ new ∷ []) → (l < length lists) ⊎ (length lists ≤ l) → (list_at (lists ++ new ∷ []) l).values ≡ heritage next values (Some l)
-      values_of l lt (inl low) = ap (λ (k : Listed T). k.values) (get_or_append_left lists (new ∷ []) empty l low) ∙ h.values_of l low
+      values_of l lt (inl low) = ap (λ (k : Listed T). k.values) (get_or_append_left lists (new ∷ []) empty_list l low) ∙ h.values_of l low
       values_of l lt (inr le) =
           let q = is_last l lt le in
-          ap (λ (k : Listed T). k.values) (get_or_push lists new empty l q) ∙ last_values ∙ ap (λ m. heritage next values (Some m)) q
+          ap (λ (k : Listed T). k.values) (get_or_push lists new empty_list l q) ∙ last_values ∙ ap (λ m. heritage next values (Some m)) q
 
       keys_of : (l : ℕ) → l < length (lists ++ new ∷ []) → (l < length lists) ⊎ (length lists ≤ l) → (list_at (lists ++ new ∷ []) l).keys ≡ heritage next keys (Some l)
-      keys_of l lt (inl low) = ap (λ (k : Listed T). k.keys) (get_or_append_left lists (new ∷ []) empty l low) ∙ h.keys_of l low
+      keys_of l lt (inl low) = ap (λ (k : Listed T). k.keys) (get_or_append_left lists (new ∷ []) empty_list l low) ∙ h.keys_of l low
       keys_of l lt (inr le) =
           let q = is_last l lt le in
-          ap (λ (k : Listed T). k.keys) (get_or_push lists new empty l q) ∙ last_keys ∙ ap (λ m. heritage next keys (Some m)) q
+          ap (λ (k : Listed T). k.keys) (get_or_push lists new empty_list l q) ∙ last_keys ∙ ap (λ m. heritage next keys (Some m)) q

@@ -9,8 +9,8 @@ use Rattle.std.proofs.lemmas.List.Elements.{recursion_from_All, All-from_recursi
 use Rattle.std.proofs.lemmas.List.{get_or_append_left, get_or_push, get_or_past, get_or-map, get_or-replicate, length-replicate}
 use Rattle.std.proofs.lemmas.Map.Keys.{IsDistinct-head, IsDistinct-tail}
 use Rattle.std.proofs.lemmas.Map.Steps.{length-le_from_distinct_below}
-use Rattle.abc_base_graphs.specs.Graph.{targets, Leads, Edge}
-use Rattle.abc_base_graphs.specs.Orders.{base, place, IsForest, IsPlaced, HasPlace, KeepsPlaces, IsWay, IsFree, IsWaiting, IsClimb, IsDescent}
+use Rattle.abc_base_graphs.specs.Graph.{leads_to, Leads, Edge}
+use Rattle.abc_base_graphs.specs.Orders.{base_in, place_in_order, IsForest, AreNodesPlaced, HasOrderPlace, KeepsPlaces, IsWay, IsNextFree, IsWayWaiting, IsClimb, IsDescent}
 use Rattle.abc_base_graphs.proofs.Searched.{contains_none, leads_on}
 
 pub no_entry : {A : Type 0} (xs : List (Option A)) (i : ℕ) → slice_get xs i ≡ None → None ≡ get_or xs i None
@@ -20,25 +20,25 @@ no_entry (x ∷ xs) (suc i) e = no_entry xs i e
 
 -- ---- what comes next
 
-pub free_none : (places : List (Option ℕ)) → IsFree places None
+pub free_none : (places : List (Option ℕ)) → IsNextFree places None
 free_none places = record { free = λ b e. cc }
 
-pub free_some : (places : List (Option ℕ)) (x p : ℕ) → place places x ≡ Some p → IsFree places (Some x)
-free_some places x p e = record { free = λ b s. let q : x ≡ b = cc in record { at = p; is = subst (λ n. place places n ≡ Some p) q e } }
+pub free_some : (places : List (Option ℕ)) (x p : ℕ) → place_in_order places x ≡ Some p → IsNextFree places (Some x)
+free_some places x p e = record { free = λ b s. let q : x ≡ b = cc in record { at = p; is = subst (λ n. place_in_order places n ≡ Some p) q e } }
 
 -- ---- nodes with a place
 
-not_placed : (places : List (Option ℕ)) (x y p : ℕ) → place places x ≡ None → place places y ≡ Some p → y ≢ x
-not_placed places x y p none some e = let f : place places y ≡ place places x = ap (place places) e in cc
+not_placed : (places : List (Option ℕ)) (x y p : ℕ) → place_in_order places x ≡ None → place_in_order places y ≡ Some p → y ≢ x
+not_placed places x y p none some e = let f : place_in_order places y ≡ place_in_order places x = ap (place_in_order places) e in cc
 
-pub placed_in_range : (places : List (Option ℕ)) (x p : ℕ) → place places x ≡ Some p → x < length places
+pub placed_in_range : (places : List (Option ℕ)) (x p : ℕ) → place_in_order places x ≡ Some p → x < length places
 placed_in_range places x p e = go (cases_lt x (length places))
   where
     go : (x < length places) ⊎ (length places ≤ x) → x < length places
     go (inl lt) = lt
     go (inr le) = let f : get_or places x None ≡ None = get_or_past places x None le in cc
 
-pub placed_next : (bases : List (Option ℕ)) (order : List ℕ) (places : List (Option ℕ)) (x : ℕ) → IsPlaced bases order places → x < length bases → place places x ≡ None → IsFree places (base bases x) → IsPlaced bases (order ++ x ∷ []) (set places x (Some (length order)))
+pub placed_next : (bases : List (Option ℕ)) (order : List ℕ) (places : List (Option ℕ)) (x : ℕ) → AreNodesPlaced bases order places → x < length bases → place_in_order places x ≡ None → IsNextFree places (base_in bases x) → AreNodesPlaced bases (order ++ x ∷ []) (set places x (Some (length order)))
 placed_next bases order places x s lt none free = record {
   len = length-set places x (Some (length order)) ∙ s.len;
   there = λ y p e. there y p e (cases_eq y x);
@@ -49,37 +49,37 @@ placed_next bases order places x s lt none free = record {
     within : x < length places
     within = let e = s.len in omega arith
 
-    here : place (set places x (Some (length order))) x ≡ Some (length order)
+    here : place_in_order (set places x (Some (length order))) x ≡ Some (length order)
     here = get_or-set_same places x (Some (length order)) None within
 
-    other : (y : ℕ) → y ≢ x → place (set places x (Some (length order))) y ≡ place places y
+    other : (y : ℕ) → y ≢ x → place_in_order (set places x (Some (length order))) y ≡ place_in_order places y
     other y ne = get_or-set_other places x y (Some (length order)) None ne
 
-    there : (y p : ℕ) → place (set places x (Some (length order))) y ≡ Some p → (y ≡ x) ⊎ (y ≡ x → ⊥) → (p < length (order ++ x ∷ [])) × (get_or (order ++ x ∷ []) p 0 ≡ y)
+    there : (y p : ℕ) → place_in_order (set places x (Some (length order))) y ≡ Some p → (y ≡ x) ⊎ (y ≡ x → ⊥) → (p < length (order ++ x ∷ [])) × (get_or (order ++ x ∷ []) p 0 ≡ y)
     there y p e (inl q) =
-        let f : place (set places x (Some (length order))) y ≡ Some (length order) = ap (place (set places x (Some (length order)))) q ∙ here in
+        let f : place_in_order (set places x (Some (length order))) y ≡ Some (length order) = ap (place_in_order (set places x (Some (length order)))) q ∙ here in
         let g : length order ≡ p = cc in
         (omega (arith, length-append order (x ∷ [])), get_or_push order x 0 p g ∙ sym q)
     there y p e (inr ne) =
         let o = s.there y p (sym (other y ne) ∙ e) in
         (let h = o.0 in omega (arith, length-append order (x ∷ [])), get_or_append_left order (x ∷ []) 0 p o.0 ∙ o.1)
 
-    back : (p : ℕ) → p < length (order ++ x ∷ []) → (p < length order) ⊎ (length order ≤ p) → place (set places x (Some (length order))) (get_or (order ++ x ∷ []) p 0) ≡ Some p
+    back : (p : ℕ) → p < length (order ++ x ∷ []) → (p < length order) ⊎ (length order ≤ p) → place_in_order (set places x (Some (length order))) (get_or (order ++ x ∷ []) p 0) ≡ Some p
     back p h (inl l) =
         let was = s.back p l in
         let ne = not_placed places x (get_or order p 0) p none was in
-        ap (place (set places x (Some (length order)))) (get_or_append_left order (x ∷ []) 0 p l) ∙ other (get_or order p 0) ne ∙ was
+        ap (place_in_order (set places x (Some (length order)))) (get_or_append_left order (x ∷ []) 0 p l) ∙ other (get_or order p 0) ne ∙ was
     back p h (inr le) =
         let e : length order ≡ p = omega (arith, length-append order (x ∷ [])) in
-        ap (place (set places x (Some (length order)))) (get_or_push order x 0 p e) ∙ here ∙ ap Some e
+        ap (place_in_order (set places x (Some (length order)))) (get_or_push order x 0 p e) ∙ here ∙ ap Some e
 
-    kept : (b q p : ℕ) → place places b ≡ Some q → q < p → (r : ℕ) × (place (set places x (Some (length order))) b ≡ Some r) × (r < p)
+    kept : (b q p : ℕ) → place_in_order places b ≡ Some q → q < p → (r : ℕ) × (place_in_order (set places x (Some (length order))) b ≡ Some r) × (r < p)
     kept b q p was less = (q, other b (not_placed places x b q none was) ∙ was, less)
 
-    behind : (y b p : ℕ) → place (set places x (Some (length order))) y ≡ Some p → base bases y ≡ Some b → (y ≡ x) ⊎ (y ≡ x → ⊥) → (r : ℕ) × (place (set places x (Some (length order))) b ≡ Some r) × (r < p)
+    behind : (y b p : ℕ) → place_in_order (set places x (Some (length order))) y ≡ Some p → base_in bases y ≡ Some b → (y ≡ x) ⊎ (y ≡ x → ⊥) → (r : ℕ) × (place_in_order (set places x (Some (length order))) b ≡ Some r) × (r < p)
     behind y b p e f (inl q) =
-        let at = free.free b (sym (ap (base bases) q) ∙ f) in
-        let g : place (set places x (Some (length order))) y ≡ Some (length order) = ap (place (set places x (Some (length order)))) q ∙ here in
+        let at = free.free b (sym (ap (base_in bases) q) ∙ f) in
+        let g : place_in_order (set places x (Some (length order))) y ≡ Some (length order) = ap (place_in_order (set places x (Some (length order)))) q ∙ here in
         let h : length order ≡ p = cc in
         kept b at.at p at.is (let o = (s.there b at.at at.is).0 in omega arith)
     behind y b p e f (inr ne) = let o = s.behind y b p (sym (other y ne) ∙ e) f in kept b o.0 p o.1 o.2
@@ -108,18 +108,18 @@ apart_more x xs ne d = (recursion_from_All (λ y. nat_eq x y ≡ false) xs (λ k
     differs k e lt false is = is
     differs k e lt true is = let q : x ≡ get_or xs k e = eqb-true x (get_or xs k e) is in absurd (ne (subst (Contains xs) (sym q) (Contains-get_or xs k e lt)))
 
-pub waiting_none : (bases places : List (Option ℕ)) → IsWaiting bases places []
+pub waiting_none : (bases places : List (Option ℕ)) → IsWayWaiting bases places []
 waiting_none bases places = record { unplaced = λ x h. absurd (contains_none x h); known = λ x h. absurd (contains_none x h); apart = apart_none }
 
-pub waiting_next : (bases places : List (Option ℕ)) (x : ℕ) (way : List ℕ) → IsWaiting bases places way → place places x ≡ None → x < length bases → (Contains way x → ⊥) → IsWaiting bases places (x ∷ way)
+pub waiting_next : (bases places : List (Option ℕ)) (x : ℕ) (way : List ℕ) → IsWayWaiting bases places way → place_in_order places x ≡ None → x < length bases → (Contains way x → ⊥) → IsWayWaiting bases places (x ∷ way)
 waiting_next bases places x way w none lt ne = record {
   unplaced = λ y h. unplaced y (cons_cases x y way h);
   known = λ y h. known y (cons_cases x y way h);
   apart = apart_more x way ne w.apart;
 }
   where
-    unplaced : (y : ℕ) → (x ≡ y) ⊎ Contains way y → place places y ≡ None
-    unplaced y (inl e) = subst (λ n. place places n ≡ None) e none
+    unplaced : (y : ℕ) → (x ≡ y) ⊎ Contains way y → place_in_order places y ≡ None
+    unplaced y (inl e) = subst (λ n. place_in_order places n ≡ None) e none
     unplaced y (inr h) = w.unplaced y h
 
     known : (y : ℕ) → (x ≡ y) ⊎ Contains way y → y < length bases
@@ -135,14 +135,14 @@ has_from_any (x ∷ xs) q e = go (has_from_any xs q) (nat_eq q x) refl e
 has_from_any [] q e = absurd (false≢true e)
 
 -- a way has at most as many nodes as there are
-pub way_fits : (bases places : List (Option ℕ)) (way : List ℕ) → IsWaiting bases places way → length way ≤ length bases
+pub way_fits : (bases places : List (Option ℕ)) (way : List ℕ) → IsWayWaiting bases places way → length way ≤ length bases
 way_fits bases places way w = length-le_from_distinct_below way (length bases) w.apart (λ q e. w.known q (has_from_any way q e))
 
 -- the edge to a base
-base_edge : (bases : List (Option ℕ)) (x b : ℕ) → x < length bases → base bases x ≡ Some b → Contains (targets (map option_to_list bases) x) b
+base_edge : (bases : List (Option ℕ)) (x b : ℕ) → x < length bases → base_in bases x ≡ Some b → Contains (leads_to (map option_to_list bases) x) b
 base_edge bases x b lt e =
-    let f : targets (map option_to_list bases) x ≡ option_to_list (base bases x) = get_or-map option_to_list bases x None [] lt in
-    let g : option_to_list (base bases x) ≡ b ∷ [] = ap option_to_list e in
+    let f : leads_to (map option_to_list bases) x ≡ option_to_list (base_in bases x) = get_or-map option_to_list bases x None [] lt in
+    let g : option_to_list (base_in bases x) ≡ b ∷ [] = ap option_to_list e in
     subst (λ (l : List ℕ). Contains l b) (sym (f ∙ g)) (contains_head b b [] refl)
 
 pub climb_begins : (bases places : List (Option ℕ)) (from : ℕ) → from < length bases → IsClimb bases places from (Some from) []
@@ -154,7 +154,7 @@ climb_begins bases places from lt = record {
   begun = inr refl;
 }
 
-pub climb_next : (bases places : List (Option ℕ)) (from x : ℕ) (next : Option ℕ) (way : List ℕ) → IsForest bases → IsClimb bases places from next way → next ≡ Some x → place places x ≡ None → IsClimb bases places from (base bases x) (x ∷ way)
+pub climb_next : (bases places : List (Option ℕ)) (from x : ℕ) (next : Option ℕ) (way : List ℕ) → IsForest bases → IsClimb bases places from next way → next ≡ Some x → place_in_order places x ≡ None → IsClimb bases places from (base_in bases x) (x ∷ way)
 climb_next bases places from x next way forest c e none = record {
   way = (refl, subst (λ n. IsWay bases n way) e c.way);
   waiting = waiting_next bases places x way c.waiting none lt apart;
@@ -169,18 +169,18 @@ climb_next bases places from x next way forest c e none = record {
     apart : Contains way x → ⊥
     apart h = forest.never x (c.leads x x h e)
 
-    leads : (y b : ℕ) → base bases x ≡ Some b → (x ≡ y) ⊎ Contains way y → Leads (map option_to_list bases) y b
+    leads : (y b : ℕ) → base_in bases x ≡ Some b → (x ≡ y) ⊎ Contains way y → Leads (map option_to_list bases) y b
     leads y b f (inl q) = subst (λ n. Leads (map option_to_list bases) n b) q (Edge (base_edge bases x b lt f))
     leads y b f (inr h) = leads_on (map option_to_list bases) y x b (c.leads y x h e) (base_edge bases x b lt f)
 
-    begun : Contains way from ⊎ (next ≡ Some from) → Contains (x ∷ way) from ⊎ (base bases x ≡ Some from)
+    begun : Contains way from ⊎ (next ≡ Some from) → Contains (x ∷ way) from ⊎ (base_in bases x ≡ Some from)
     begun (inl h) = inl (contains_cons x from way h)
     begun (inr f) = let q : x ≡ from = cc in inl (contains_head x from way q)
 
 pub climb_fits : (bases places : List (Option ℕ)) (from x : ℕ) (next : Option ℕ) (way : List ℕ) → IsClimb bases places from next (x ∷ way) → length bases - length (x ∷ way) < length bases - length way
 climb_fits bases places from x next way c = let h = way_fits bases places (x ∷ way) c.waiting in omega arith
 
-pub climb_ends : (bases places : List (Option ℕ)) (from : ℕ) (next : Option ℕ) (way : List ℕ) → IsClimb bases places from next way → IsFree places next → IsDescent bases places from way
+pub climb_ends : (bases places : List (Option ℕ)) (from : ℕ) (next : Option ℕ) (way : List ℕ) → IsClimb bases places from next way → IsNextFree places next → IsDescent bases places from way
 climb_ends bases places from next way c free = record {
   above = next;
   free = free;
@@ -189,23 +189,23 @@ climb_ends bases places from next way c free = record {
   begun = begun c.begun;
 }
   where
-    begun : Contains way from ⊎ (next ≡ Some from) → Contains way from ⊎ HasPlace places from
+    begun : Contains way from ⊎ (next ≡ Some from) → Contains way from ⊎ HasOrderPlace places from
     begun (inl h) = inl h
     begun (inr e) = inr (free.free from e)
 
 -- ---- the way down
 
 -- the topmost node of a way has a free base
-pub top_free : (bases places : List (Option ℕ)) (from x : ℕ) (way : List ℕ) → IsDescent bases places from (x ∷ way) → IsFree places (base bases x)
-top_free bases places from x way d = subst (IsFree places) (sym d.way.0) d.free
+pub top_free : (bases places : List (Option ℕ)) (from x : ℕ) (way : List ℕ) → IsDescent bases places from (x ∷ way) → IsNextFree places (base_in bases x)
+top_free bases places from x way d = subst (IsNextFree places) (sym d.way.0) d.free
 
-pub top_waits : (bases places : List (Option ℕ)) (from x : ℕ) (way : List ℕ) → IsDescent bases places from (x ∷ way) → (place places x ≡ None) × (x < length bases)
+pub top_waits : (bases places : List (Option ℕ)) (from x : ℕ) (way : List ℕ) → IsDescent bases places from (x ∷ way) → (place_in_order places x ≡ None) × (x < length bases)
 top_waits bases places from x way d = (d.waiting.unplaced x (contains_head x x way refl), d.waiting.known x (contains_head x x way refl))
 
 pub descent_next : (bases places : List (Option ℕ)) (from x p : ℕ) (way : List ℕ) → length places ≡ length bases → IsDescent bases places from (x ∷ way) → IsDescent bases (set places x (Some p)) from way
 descent_next bases places from x p way len d = record {
   above = Some x;
-  free = record { free = λ b e. let q : x ≡ b = cc in subst (HasPlace (set places x (Some p))) q here };
+  free = record { free = λ b e. let q : x ≡ b = cc in subst (HasOrderPlace (set places x (Some p))) q here };
   way = d.way.1;
   waiting = record {
     unplaced = λ y h. get_or-set_other places x y (Some p) None (apart y h) ∙ d.waiting.unplaced y (contains_cons x y way h);
@@ -218,7 +218,7 @@ descent_next bases places from x p way len d = record {
     within : x < length places
     within = let h = d.waiting.known x (contains_head x x way refl) in omega arith
 
-    here : HasPlace (set places x (Some p)) x
+    here : HasOrderPlace (set places x (Some p)) x
     here = record { at = p; is = get_or-set_same places x (Some p) None within }
 
     apart : (y : ℕ) → Contains way y → y ≢ x
@@ -229,26 +229,26 @@ descent_next bases places from x p way len d = record {
         let h : nat_eq x (get_or way k y) ≡ true = eq-eqb x (get_or way k y) g in
         false≢true (sym f ∙ h)
 
-    kept : HasPlace places from → (from ≡ x) ⊎ (from ≡ x → ⊥) → HasPlace (set places x (Some p)) from
-    kept h (inl e) = subst (HasPlace (set places x (Some p))) (sym e) here
+    kept : HasOrderPlace places from → (from ≡ x) ⊎ (from ≡ x → ⊥) → HasOrderPlace (set places x (Some p)) from
+    kept h (inl e) = subst (HasOrderPlace (set places x (Some p))) (sym e) here
     kept h (inr ne) = record { at = h.at; is = get_or-set_other places x from (Some p) None ne ∙ h.is }
 
-    split : (x ≡ from) ⊎ Contains way from → Contains way from ⊎ HasPlace (set places x (Some p)) from
-    split (inl e) = inr (subst (HasPlace (set places x (Some p))) e here)
+    split : (x ≡ from) ⊎ Contains way from → Contains way from ⊎ HasOrderPlace (set places x (Some p)) from
+    split (inl e) = inr (subst (HasOrderPlace (set places x (Some p))) e here)
     split (inr h) = inl h
 
-    begun : Contains (x ∷ way) from ⊎ HasPlace places from → Contains way from ⊎ HasPlace (set places x (Some p)) from
+    begun : Contains (x ∷ way) from ⊎ HasOrderPlace places from → Contains way from ⊎ HasOrderPlace (set places x (Some p)) from
     begun (inl h) = split (cons_cases x from way h)
     begun (inr h) = inr (kept h (cases_eq from x))
 
-pub descent_ends : (bases places : List (Option ℕ)) (from : ℕ) → IsDescent bases places from [] → HasPlace places from
+pub descent_ends : (bases places : List (Option ℕ)) (from : ℕ) → IsDescent bases places from [] → HasOrderPlace places from
 descent_ends bases places from d = go d.begun
   where
-    go : Contains [] from ⊎ HasPlace places from → HasPlace places from
+    go : Contains [] from ⊎ HasOrderPlace places from → HasOrderPlace places from
     go (inl h) = absurd (contains_none from h)
     go (inr h) = h
 
-pub keeps_set : (places : List (Option ℕ)) (x p : ℕ) → place places x ≡ None → KeepsPlaces places (set places x (Some p))
+pub keeps_set : (places : List (Option ℕ)) (x p : ℕ) → place_in_order places x ≡ None → KeepsPlaces places (set places x (Some p))
 keeps_set places x p none = record { keeps = λ y h. record { at = h.at; is = get_or-set_other places x y (Some p) None (not_placed places x y h.at none h.is) ∙ h.is } }
 
 pub keeps_self : (places : List (Option ℕ)) → KeepsPlaces places places
@@ -259,14 +259,14 @@ keeps_then a b c p q = record { keeps = λ y h. q.keeps y (p.keeps y h) }
 
 -- ---- from none to all
 
-no_place : (n x : ℕ) → place (replicate n None) x ≡ None
+no_place : (n x : ℕ) → place_in_order (replicate n None) x ≡ None
 no_place n x = go (cases_lt x n)
   where
-    go : (x < n) ⊎ (n ≤ x) → place (replicate n None) x ≡ None
+    go : (x < n) ⊎ (n ≤ x) → place_in_order (replicate n None) x ≡ None
     go (inl lt) = get_or-replicate n x None None lt
     go (inr le) = let none : Option ℕ = None in get_or_past (replicate n none) x none (omega (arith, length-replicate n none))
 
-pub none_placed : (bases : List (Option ℕ)) → IsPlaced bases [] (replicate (length bases) None)
+pub none_placed : (bases : List (Option ℕ)) → AreNodesPlaced bases [] (replicate (length bases) None)
 none_placed bases = record {
   len = let none : Option ℕ = None in length-replicate (length bases) none;
   there = λ x p e. let f = no_place (length bases) x in cc;

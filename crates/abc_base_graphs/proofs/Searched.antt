@@ -6,8 +6,8 @@ use Rattle.std.proofs.lemmas.List.Elements.{All-get_or, Contains-append_left, Co
 use Rattle.std.proofs.lemmas.List.{take_more, get_or_past, get_or-replicate, length-replicate}
 use Rattle.std.proofs.lemmas.List.Sums.{sum_by-set}
 use Rattle.std.proofs.lemmas.Bool.{cases_eq, cases_lt}
-use Rattle.abc_base_graphs.specs.Graph.{targets, IsGraph, Has, Leads, Edge, Then, IsReached}
-use Rattle.abc_base_graphs.specs.Searching.{effort, AddsAll, IsSearch}
+use Rattle.abc_base_graphs.specs.Graph.{leads_to, IsGraph, Has, Leads, Edge, Then, AreReachMarks}
+use Rattle.abc_base_graphs.specs.Searching.{effort, AddsNodes, IsSearch}
 
 -- ---- nodes in a list
 
@@ -46,7 +46,7 @@ count_set found n lt e =
 
 -- ---- what is found
 
-pub adds_none : (found : List Bool) (todo : List ℕ) → AddsAll found todo [] found todo
+pub adds_none : (found : List Bool) (todo : List ℕ) → AddsNodes found todo [] found todo
 adds_none found todo = record {
   len = refl;
   stays = λ x h. h;
@@ -57,7 +57,7 @@ adds_none found todo = record {
   less = omega arith;
 }
 
-pub adds_known : (found : List Bool) (todo : List ℕ) (n : ℕ) → get_or found n false ≡ true → AddsAll found todo (n ∷ []) found todo
+pub adds_known : (found : List Bool) (todo : List ℕ) (n : ℕ) → get_or found n false ≡ true → AddsNodes found todo (n ∷ []) found todo
 adds_known found todo n e = record {
   len = refl;
   stays = λ x h. h;
@@ -68,7 +68,7 @@ adds_known found todo n e = record {
   less = omega arith;
 }
 
-pub adds_new : (found : List Bool) (todo : List ℕ) (n : ℕ) → n < length found → get_or found n false ≡ false → AddsAll found todo (n ∷ []) (set found n true) (todo ++ n ∷ [])
+pub adds_new : (found : List Bool) (todo : List ℕ) (n : ℕ) → n < length found → get_or found n false ≡ false → AddsNodes found todo (n ∷ []) (set found n true) (todo ++ n ∷ [])
 adds_new found todo n lt e =
     let added : Has (set found n true) n = has_set_same found n lt in
     let at : (x : ℕ) → n ≡ x → Has (set found n true) x = λ x q. subst (Has (set found n true)) q added in
@@ -91,7 +91,7 @@ adds_new found todo n lt e =
     from x at (inl h) = inl h
     from x at (inr q) = inr (at x q)
 
-pub adds_more : (f f2 f3 : List Bool) (t t2 t3 nodes : List ℕ) (y : ℕ) → AddsAll f t nodes f2 t2 → AddsAll f2 t2 (y ∷ []) f3 t3 → AddsAll f t (nodes ++ y ∷ []) f3 t3
+pub adds_more : (f f2 f3 : List Bool) (t t2 t3 nodes : List ℕ) (y : ℕ) → AddsNodes f t nodes f2 t2 → AddsNodes f2 t2 (y ∷ []) f3 t3 → AddsNodes f t (nodes ++ y ∷ []) f3 t3
 adds_more f f2 f3 t t2 t3 nodes y a b = record {
   len = b.len ∙ a.len;
   stays = λ x h. b.stays x (a.stays x h);
@@ -122,7 +122,7 @@ adds_more f f2 f3 t t2 t3 nodes y a b = record {
     new x (inl h) = before x (a.todo_new x h)
     new x (inr h) = inr h
 
-pub adds_next : (f f2 f3 : List Bool) (t t2 t3 nodes : List ℕ) (i : ℕ) → i < length nodes → AddsAll f t (take i nodes) f2 t2 → AddsAll f2 t2 (get_or nodes i 0 ∷ []) f3 t3 → AddsAll f t (take (i + 1) nodes) f3 t3
+pub adds_next : (f f2 f3 : List Bool) (t t2 t3 nodes : List ℕ) (i : ℕ) → i < length nodes → AddsNodes f t (take i nodes) f2 t2 → AddsNodes f2 t2 (get_or nodes i 0 ∷ []) f3 t3 → AddsNodes f t (take (i + 1) nodes) f3 t3
 adds_next f f2 f3 t t2 t3 nodes i lt a b = rw (take_more nodes i 0 lt) (adds_more f f2 f3 t t2 t3 (take i nodes) (get_or nodes i 0) a b)
 
 pub in_range : (nodes : List ℕ) (n m i : ℕ) → m ≡ n → All (λ y. y < n) nodes → i < length nodes → get_or nodes i 0 < m
@@ -130,7 +130,7 @@ in_range nodes n m i e all lt = let h = all i 0 lt in omega arith
 
 -- ---- the whole search
 
-pub search_begun : (graph : List (List ℕ)) (from : ℕ) (found f2 : List Bool) (t2 : List ℕ) → length found ≡ length graph → ((x : ℕ) → Has found x → ⊥) → AddsAll found [] (targets graph from) f2 t2 → IsSearch graph from f2 t2
+pub search_begun : (graph : List (List ℕ)) (from : ℕ) (found f2 : List Bool) (t2 : List ℕ) → length found ≡ length graph → ((x : ℕ) → Has found x → ⊥) → AddsNodes found [] (leads_to graph from) f2 t2 → IsSearch graph from f2 t2
 search_begun graph from found f2 t2 len none a = record {
   len = a.len ∙ len;
   sound = λ x h. sound x (a.only x h);
@@ -139,11 +139,11 @@ search_begun graph from found f2 t2 len none a = record {
   todo_found = λ x h. from_todo x (a.todo_new x h);
 }
   where
-    sound : (x : ℕ) → Has found x ⊎ (Contains (targets graph from) x × Contains t2 x) → Leads graph from x
+    sound : (x : ℕ) → Has found x ⊎ (Contains (leads_to graph from) x × Contains t2 x) → Leads graph from x
     sound x (inl h) = absurd (none x h)
     sound x (inr p) = Edge p.0
 
-    todo : (x : ℕ) → Has found x ⊎ (Contains (targets graph from) x × Contains t2 x) → Contains t2 x
+    todo : (x : ℕ) → Has found x ⊎ (Contains (leads_to graph from) x × Contains t2 x) → Contains t2 x
     todo x (inl h) = absurd (none x h)
     todo x (inr p) = p.1
 
@@ -151,12 +151,12 @@ search_begun graph from found f2 t2 len none a = record {
     from_todo x (inl h) = absurd (contains_none x h)
     from_todo x (inr h) = h
 
-pub leads_on : (graph : List (List ℕ)) (x y z : ℕ) → Leads graph x y → Contains (targets graph y) z → Leads graph x z
+pub leads_on : (graph : List (List ℕ)) (x y z : ℕ) → Leads graph x y → Contains (leads_to graph y) z → Leads graph x z
 leads_on graph x y z (Edge e) c = Then e (Edge c)
 leads_on graph x y z (Then {y = m} e rest) c = Then e (leads_on graph m y z rest c)
 
 -- what is to be done next is done
-pub search_next : (graph : List (List ℕ)) (from : ℕ) (found f2 : List Bool) (todo t2 : List ℕ) (n : ℕ) → IsSearch graph from found (todo ++ n ∷ []) → AddsAll found todo (targets graph n) f2 t2 → IsSearch graph from f2 t2
+pub search_next : (graph : List (List ℕ)) (from : ℕ) (found f2 : List Bool) (todo t2 : List ℕ) (n : ℕ) → IsSearch graph from found (todo ++ n ∷ []) → AddsNodes found todo (leads_to graph n) f2 t2 → IsSearch graph from f2 t2
 search_next graph from found f2 todo t2 n s a = record {
   len = a.len ∙ s.len;
   sound = λ x h. sound x (a.only x h);
@@ -168,22 +168,22 @@ search_next graph from found f2 todo t2 n s a = record {
     here : Has found n
     here = s.todo_found n (Contains-push todo n)
 
-    sound : (x : ℕ) → Has found x ⊎ (Contains (targets graph n) x × Contains t2 x) → Leads graph from x
+    sound : (x : ℕ) → Has found x ⊎ (Contains (leads_to graph n) x × Contains t2 x) → Leads graph from x
     sound x (inl h) = s.sound x h
     sound x (inr p) = leads_on graph from n x (s.sound n here) p.0
 
     Closed : ℕ → Type 0
-    Closed x = Contains t2 x ⊎ ((y : ℕ) → Contains (targets graph x) y → Has f2 y)
+    Closed x = Contains t2 x ⊎ ((y : ℕ) → Contains (leads_to graph x) y → Has f2 y)
 
     still : (x : ℕ) → Contains todo x ⊎ (n ≡ x) → Closed x
     still x (inl h) = inl (a.keeps x h)
-    still x (inr e) = inr (λ y c. a.each y (subst (λ m. Contains (targets graph m) y) (sym e) c))
+    still x (inr e) = inr (λ y c. a.each y (subst (λ m. Contains (leads_to graph m) y) (sym e) c))
 
-    before : (x : ℕ) → Contains (todo ++ n ∷ []) x ⊎ ((y : ℕ) → Contains (targets graph x) y → Has found y) → Closed x
+    before : (x : ℕ) → Contains (todo ++ n ∷ []) x ⊎ ((y : ℕ) → Contains (leads_to graph x) y → Has found y) → Closed x
     before x (inl h) = still x (Contains-push_cases todo n x h)
     before x (inr all) = inr (λ y c. a.stays y (all y c))
 
-    closed : (x : ℕ) → Has found x ⊎ (Contains (targets graph n) x × Contains t2 x) → Closed x
+    closed : (x : ℕ) → Has found x ⊎ (Contains (leads_to graph n) x × Contains t2 x) → Closed x
     closed x (inl h) = before x (s.closed x h)
     closed x (inr p) = inl p.1
 
@@ -192,14 +192,14 @@ search_next graph from found f2 todo t2 n s a = record {
     todo_found x (inr h) = h
 
 -- where nothing is left to do, all is found
-pub search_done : (graph : List (List ℕ)) (from : ℕ) (found : List Bool) → IsSearch graph from found [] → IsReached graph from found
+pub search_done : (graph : List (List ℕ)) (from : ℕ) (found : List Bool) → IsSearch graph from found [] → AreReachMarks graph from found
 search_done graph from found s = record {
   len = s.len;
   sound = s.sound;
   complete = λ y l. first y l;
 }
   where
-    closed : (x : ℕ) → Contains [] x ⊎ ((y : ℕ) → Contains (targets graph x) y → Has found y) → (y : ℕ) → Contains (targets graph x) y → Has found y
+    closed : (x : ℕ) → Contains [] x ⊎ ((y : ℕ) → Contains (leads_to graph x) y → Has found y) → (y : ℕ) → Contains (leads_to graph x) y → Has found y
     closed x (inl h) y c = absurd (contains_none x h)
     closed x (inr all) y c = all y c
 
@@ -211,7 +211,7 @@ search_done graph from found s = record {
     first y (Edge e) = s.begun y e
     first y (Then {y = m} e rest) = along m y (s.begun m e) rest
 
-pub targets_in_range : (graph : List (List ℕ)) (x : ℕ) → IsGraph graph → x < length graph → All (λ y. y < length graph) (targets graph x)
+pub targets_in_range : (graph : List (List ℕ)) (x : ℕ) → IsGraph graph → x < length graph → All (λ y. y < length graph) (leads_to graph x)
 targets_in_range graph x g lt = All-get_or (All (λ y. y < length graph)) graph x [] lt g
 
 pub marked_in_range : (found : List Bool) (x : ℕ) → Has found x → x < length found
@@ -228,7 +228,7 @@ none_found n x h =
     let e : false ≡ true = sym (get_or-replicate n x false false lt2) ∙ h.marked in cc
 
 -- the effort falls with each node that is taken
-pub effort_falls : (found f2 : List Bool) (todo t2 nodes : List ℕ) (n : ℕ) → AddsAll found todo nodes f2 t2 → effort f2 t2 < effort found (todo ++ n ∷ [])
+pub effort_falls : (found f2 : List Bool) (todo t2 nodes : List ℕ) (n : ℕ) → AddsNodes found todo nodes f2 t2 → effort f2 t2 < effort found (todo ++ n ∷ [])
 effort_falls found f2 todo t2 nodes n a = let l = a.less in omega (arith, length-append todo (n ∷ []))
 
 pub todo_in_range : (graph : List (List ℕ)) (from : ℕ) (found : List Bool) (todo : List ℕ) (n : ℕ) → IsSearch graph from found (todo ++ n ∷ []) → n < length graph
@@ -236,14 +236,14 @@ todo_in_range graph from found todo n s = let lt = marked_in_range found n (s.to
 
 -- ---- the same, as the code meets it
 
-pub begins : (graph : List (List ℕ)) (from n : ℕ) (found f2 : List Bool) (todo t2 : List ℕ) → found ≡ replicate n false → n ≡ length graph → todo ≡ [] → AddsAll found todo (targets graph from) f2 t2 → IsSearch graph from f2 t2
+pub begins : (graph : List (List ℕ)) (from n : ℕ) (found f2 : List Bool) (todo t2 : List ℕ) → found ≡ replicate n false → n ≡ length graph → todo ≡ [] → AddsNodes found todo (leads_to graph from) f2 t2 → IsSearch graph from f2 t2
 begins graph from n found f2 todo t2 e len empty a =
     let len2 : length found ≡ length graph = ap length e ∙ length-replicate n false ∙ len in
-    search_begun graph from found f2 t2 len2 (λ x h. none_found n x (subst (λ l. Has l x) e h)) (subst (λ l. AddsAll found l (targets graph from) f2 t2) empty a)
+    search_begun graph from found f2 t2 len2 (λ x h. none_found n x (subst (λ l. Has l x) e h)) (subst (λ l. AddsNodes found l (leads_to graph from) f2 t2) empty a)
 
 -- a node was taken from what was to be done
 pub taken : (graph : List (List ℕ)) (from : ℕ) (found f1 : List Bool) (todo t1 : List ℕ) (n : ℕ) → IsSearch graph from found todo → todo ≡ t1 ++ n ∷ [] → f1 ≡ found → IsSearch graph from f1 (t1 ++ n ∷ [])
 taken graph from found f1 todo t1 n s e same = subst (λ l. IsSearch graph from l (t1 ++ n ∷ [])) (sym same) (subst (IsSearch graph from found) e s)
 
-pub ends : (graph : List (List ℕ)) (from : ℕ) (found f1 : List Bool) (todo : List ℕ) → IsSearch graph from found todo → todo ≡ [] → f1 ≡ found → IsReached graph from f1
-ends graph from found f1 todo s e same = subst (IsReached graph from) (sym same) (search_done graph from found (subst (IsSearch graph from found) e s))
+pub ends : (graph : List (List ℕ)) (from : ℕ) (found f1 : List Bool) (todo : List ℕ) → IsSearch graph from found todo → todo ≡ [] → f1 ≡ found → AreReachMarks graph from f1
+ends graph from found f1 todo s e same = subst (AreReachMarks graph from) (sym same) (search_done graph from found (subst (IsSearch graph from found) e s))

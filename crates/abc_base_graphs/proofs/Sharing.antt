@@ -2,7 +2,7 @@
 use Rattle.std.proofs.Common.{◌≡◌, ℕ, suc, ◌<◌, List, [], ◌∷◌, ◌++◌, All, map, length, refl, sym, ap, subst, ◌∙◌, arith, length-append}
 use Rattle.std.proofs.lemmas.List.{get_or_append_left, get_or_push, map-append}
 use Rattle.std.proofs.lemmas.List.Elements.{All-append, All-cons}
-use Rattle.abc_base_graphs.specs.Listed.{Listed, empty}
+use Rattle.abc_base_graphs.specs.Listed.{Listed, empty_list}
 use Rattle.abc_base_graphs.specs.Heirs.{list_at}
 
 module _ {T : Type 0} where
@@ -13,14 +13,14 @@ module _ {T : Type 0} where
   pub kept_view : (lists : List (Listed T)) (x : Listed T) (holders : List ℕ) → All (λ i. i < length lists) holders → view_of (lists ++ x ∷ []) holders ≡ view_of lists holders
   kept_view lists x [] h = refl
   kept_view lists x (i ∷ holders) h =
-      ap (λ (y : Listed T). y ∷ view_of (lists ++ x ∷ []) holders) (get_or_append_left lists (x ∷ []) empty i (h 0 0 (omega arith)))
+      ap (λ (y : Listed T). y ∷ view_of (lists ++ x ∷ []) holders) (get_or_append_left lists (x ∷ []) empty_list i (h 0 0 (omega arith)))
       ∙ ap (λ (ys : List (Listed T)). list_at lists i ∷ ys) (kept_view lists x holders (λ k d lt. h (suc k) d (omega arith)))
 
   pub view_more : (lists : List (Listed T)) (x : Listed T) (holders : List ℕ) → All (λ i. i < length lists) holders → view_of (lists ++ x ∷ []) (holders ++ length lists ∷ []) ≡ view_of lists holders ++ x ∷ []
   view_more lists x holders h =
       map-append (λ i. list_at (lists ++ x ∷ []) i) holders (length lists ∷ [])
       ∙ ap (λ (ys : List (Listed T)). ys ++ list_at (lists ++ x ∷ []) (length lists) ∷ []) (kept_view lists x holders h)
-      ∙ ap (λ (y : Listed T). view_of lists holders ++ y ∷ []) (get_or_push lists x empty (length lists) refl)
+      ∙ ap (λ (y : Listed T). view_of lists holders ++ y ∷ []) (get_or_push lists x empty_list (length lists) refl)
 
   pub held_more : (lists : List (Listed T)) (x : Listed T) (holders : List ℕ) → All (λ i. i < length lists) holders → All (λ i. i < length (lists ++ x ∷ [])) holders
   held_more lists x holders h = λ k d lt. let m = h k d lt in omega (arith, length-append lists (x ∷ []))

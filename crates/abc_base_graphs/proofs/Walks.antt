@@ -2,14 +2,14 @@
 use Rattle.std.proofs.Common.{◌≡◌, ℕ, zero, suc, ◌≤◌, List, [], ◌∷◌, refl, sym, ap, subst, ◌∙◌, arith}
 use Rattle.std.specs.Prelude.{Some, None}
 use Rattle.std.specs.declared.option.Option.{Option}
-use Rattle.abc_base_graphs.specs.Ways.{steps, way, IsFalling, IsWay, IsBelow}
+use Rattle.abc_base_graphs.specs.Ways.{places_along, way, IsFalling, IsWay, IsPlaceBelow}
 
-pub falls_below : (next : ℕ → Option ℕ) → IsFalling next → (x n : ℕ) → x ≤ n → (o : Option ℕ) → next x ≡ o → IsBelow o n
+pub falls_below : (next : ℕ → Option ℕ) → IsFalling next → (x n : ℕ) → x ≤ n → (o : Option ℕ) → next x ≡ o → IsPlaceBelow o n
 falls_below next f x n h None e = tt
 falls_below next f x n h (Some y) e = let lt = f.falls x y e in omega (arith, lt)
 
 -- more steps than places make no difference
-enough : (next : ℕ → Option ℕ) → IsFalling next → (n m : ℕ) (at : Option ℕ) → IsBelow at n → IsBelow at m → steps next n at ≡ steps next m at
+enough : (next : ℕ → Option ℕ) → IsFalling next → (n m : ℕ) (at : Option ℕ) → IsPlaceBelow at n → IsPlaceBelow at m → places_along next n at ≡ places_along next m at
 enough next f zero zero at h k = refl
 enough next f zero (suc m) None h k = refl
 enough next f zero (suc m) (Some x) h k = absurd (omega arith)
@@ -23,7 +23,7 @@ pub way_none : (next : ℕ → Option ℕ) → way next None ≡ []
 unfolding way
 way_none next = refl
 
-rest : (next : ℕ → Option ℕ) → IsFalling next → (x : ℕ) (o : Option ℕ) → next x ≡ o → steps next x o ≡ way next o
+rest : (next : ℕ → Option ℕ) → IsFalling next → (x : ℕ) (o : Option ℕ) → next x ≡ o → places_along next x o ≡ way next o
 unfolding way
 rest next f zero None e = refl
 rest next f (suc x) None e = refl
@@ -35,13 +35,13 @@ unfolding way
 way_some next f x = ap (λ xs. x ∷ xs) (rest next f x (next x) refl)
 
 -- a step of a walk stays within the list
-pub step_in : (next : ℕ → Option ℕ) → IsFalling next → (x n : ℕ) (at : Option ℕ) → at ≡ Some x → IsBelow at n → (to : Option ℕ) → to ≡ next x → IsBelow to n
+pub step_in : (next : ℕ → Option ℕ) → IsFalling next → (x n : ℕ) (at : Option ℕ) → at ≡ Some x → IsPlaceBelow at n → (to : Option ℕ) → to ≡ next x → IsPlaceBelow to n
 step_in next f x n None e h to is = cc
 step_in next f x n (Some y) e h to is =
     let q : y ≡ x = cc in
     falls_below next f x n (omega arith) to (sym is)
 
-way_below : (next : ℕ → Option ℕ) → IsFalling next → (n : ℕ) (at : Option ℕ) → IsBelow at n → IsWay next at (way next at)
+way_below : (next : ℕ → Option ℕ) → IsFalling next → (n : ℕ) (at : Option ℕ) → IsPlaceBelow at n → IsWay next at (way next at)
 way_below next f n None h = subst (IsWay next None) (sym (way_none next)) refl
 way_below next f zero (Some x) h = absurd (omega arith)
 way_below next f (suc n) (Some x) h = subst (IsWay next (Some x)) (sym (way_some next f x)) (refl, way_below next f n (next x) (falls_below next f x n (omega arith) (next x) refl))

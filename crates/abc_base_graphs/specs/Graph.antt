@@ -2,8 +2,8 @@
 use Rattle.std.specs.Prelude.{◌≡◌, ℕ, ◌<◌, List, [], All, Contains, Bool, true, false, length, get_or, Some, None}
 use Rattle.std.specs.declared.option.Option.{Option}
 
-abbrev pub targets : List (List ℕ) → ℕ → List ℕ
-targets graph x = get_or graph x []
+abbrev pub leads_to : List (List ℕ) → ℕ → List ℕ
+leads_to graph x = get_or graph x []
 
 -- each edge leads to a node
 abbrev pub IsGraph : List (List ℕ) → Type 0
@@ -11,8 +11,8 @@ IsGraph graph = All (All (λ y. y < length graph)) graph
 
 -- one edge, or several in a row, lead from a node to another
 pub data Leads (graph : List (List ℕ)) : ℕ → ℕ → Type 0 where
-  Edge : {x y : ℕ} → Contains (targets graph x) y → Leads graph x y
-  Then : {x y z : ℕ} → Contains (targets graph x) y → Leads graph y z → Leads graph x z
+  Edge : {x y : ℕ} → Contains (leads_to graph x) y → Leads graph x y
+  Then : {x y z : ℕ} → Contains (leads_to graph x) y → Leads graph y z → Leads graph x z
 
 -- following edges from the node returns to it
 abbrev pub Returns : List (List ℕ) → ℕ → Type 0
@@ -25,7 +25,7 @@ pub record Has (marks : List Bool) (x : ℕ) : Type 0 where
   pub marked : get_or marks x false ≡ true
 
 -- the marks are those of the nodes that one node leads to
-pub record IsReached (graph : List (List ℕ)) (from : ℕ) (marks : List Bool) : Type 0 where
+pub record AreReachMarks (graph : List (List ℕ)) (from : ℕ) (marks : List Bool) : Type 0 where
   pub len : length marks ≡ length graph
   pub sound : (y : ℕ) → Has marks y → Leads graph from y
   pub complete : (y : ℕ) → Leads graph from y → Has marks y

@@ -7,5 +7,5 @@ abbrev pub blank : Mark
 blank = record { turn = 0; number = 0 }
 
 -- only what was written in the turn counts
-abbrev pub mark_at : ℕ → Mark → Option ℕ
-mark_at turn m = if nat_eq m.turn turn then Some m.number else None
+abbrev pub mark_of_turn : ℕ → Mark → Option ℕ
+mark_of_turn turn m = if nat_eq m.turn turn then Some m.number else None

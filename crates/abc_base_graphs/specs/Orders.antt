@@ -5,30 +5,30 @@ use Rattle.std.specs.Option.{option_to_list}
 use Rattle.std.specs.List.{IsDistinct, list_any}
 use Rattle.abc_base_graphs.specs.Graph.{Leads, Returns}
 
-abbrev pub base : List (Option ℕ) → ℕ → Option ℕ
-base bases x = get_or bases x None
+abbrev pub base_in : List (Option ℕ) → ℕ → Option ℕ
+base_in bases x = get_or bases x None
 
 -- following bases never returns
 pub record IsForest (bases : List (Option ℕ)) : Type 0 where
-  pub known : (x b : ℕ) → base bases x ≡ Some b → b < length bases
+  pub known : (x b : ℕ) → base_in bases x ≡ Some b → b < length bases
   pub never : (x : ℕ) → Returns (map option_to_list bases) x → ⊥
 
-abbrev pub place : List (Option ℕ) → ℕ → Option ℕ
-place places x = get_or places x None
+abbrev pub place_in_order : List (Option ℕ) → ℕ → Option ℕ
+place_in_order places x = get_or places x None
 
 -- the place of each node that has one; a base has a place before that of the node
-pub record IsPlaced (bases : List (Option ℕ)) (order : List ℕ) (places : List (Option ℕ)) : Type 0 where
+pub record AreNodesPlaced (bases : List (Option ℕ)) (order : List ℕ) (places : List (Option ℕ)) : Type 0 where
   pub len : length places ≡ length bases
-  pub there : (x p : ℕ) → place places x ≡ Some p → (p < length order) × (get_or order p 0 ≡ x)
-  pub back : (p : ℕ) → p < length order → place places (get_or order p 0) ≡ Some p
-  pub behind : (x b p : ℕ) → place places x ≡ Some p → base bases x ≡ Some b → (q : ℕ) × (place places b ≡ Some q) × (q < p)
+  pub there : (x p : ℕ) → place_in_order places x ≡ Some p → (p < length order) × (get_or order p 0 ≡ x)
+  pub back : (p : ℕ) → p < length order → place_in_order places (get_or order p 0) ≡ Some p
+  pub behind : (x b p : ℕ) → place_in_order places x ≡ Some p → base_in bases x ≡ Some b → (q : ℕ) × (place_in_order places b ≡ Some q) × (q < p)
 
-pub record HasPlace (places : List (Option ℕ)) (x : ℕ) : Type 0 where
+pub record HasOrderPlace (places : List (Option ℕ)) (x : ℕ) : Type 0 where
   pub at : ℕ
-  pub is : place places x ≡ Some at
+  pub is : place_in_order places x ≡ Some at
 
 pub record KeepsPlaces (old new : List (Option ℕ)) : Type 0 where
-  pub keeps : (x : ℕ) → HasPlace old x → HasPlace new x
+  pub keeps : (x : ℕ) → HasOrderPlace old x → HasOrderPlace new x
 
 -- ---- the one order: the nodes in turn, each behind its base
 
@@ -42,22 +42,22 @@ with_base order settle (Some b) = settle b
 
 -- An order with a node settled: the same where the node stands in it, or else that with the base settled, and then the node. Above
 -- a node stand no more bases than there is fuel.
-abbrev pub settled : (fuel : ℕ) → List (Option ℕ) → List ℕ → ℕ → List ℕ
-settled zero bases order x = order
-settled (suc fuel) bases order x = if stands_in order x then order else with_base order (settled fuel bases order) (base bases x) ++ x ∷ []
+abbrev pub order_with : (fuel : ℕ) → List (Option ℕ) → List ℕ → ℕ → List ℕ
+order_with zero bases order x = order
+order_with (suc fuel) bases order x = if stands_in order x then order else with_base order (order_with fuel bases order) (base_in bases x) ++ x ∷ []
 
 -- the nodes below n, settled in turn
 abbrev pub settled_below : List (Option ℕ) → ℕ → List ℕ
 settled_below bases zero = []
-settled_below bases (suc n) = settled (length bases) bases (settled_below bases n) n
+settled_below bases (suc n) = order_with (length bases) bases (settled_below bases n) n
 
 unfoldable pub order_of_all : List (Option ℕ) → List ℕ
 order_of_all bases = settled_below bases (length bases)
 
 -- the one order of all nodes, and the place of each
 pub record IsOrder (bases : List (Option ℕ)) (order : List ℕ) (places : List (Option ℕ)) : Type 0 where
-  pub placed : IsPlaced bases order places
-  pub all : (x : ℕ) → x < length bases → HasPlace places x
+  pub placed : AreNodesPlaced bases order places
+  pub all : (x : ℕ) → x < length bases → HasOrderPlace places x
   pub is : order ≡ order_of_all bases
 
 -- ---- a way up
@@ -65,34 +65,34 @@ pub record IsOrder (bases : List (Option ℕ)) (order : List ℕ) (places : List
 -- each node of the way has the one above it as its base; the topmost has what comes next
 abbrev pub IsWay : List (Option ℕ) → Option ℕ → List ℕ → Type 0
 IsWay bases next [] = Unit {0}
-IsWay bases next (x ∷ way) = (base bases x ≡ next) × IsWay bases (Some x) way
+IsWay bases next (x ∷ way) = (base_in bases x ≡ next) × IsWay bases (Some x) way
 
 -- the next node is none, or has a place
-pub record IsFree (places : List (Option ℕ)) (next : Option ℕ) : Type 0 where
-  pub free : (b : ℕ) → next ≡ Some b → HasPlace places b
+pub record IsNextFree (places : List (Option ℕ)) (next : Option ℕ) : Type 0 where
+  pub free : (b : ℕ) → next ≡ Some b → HasOrderPlace places b
 
 -- the nodes of a way have no place, and no two are equal
-pub record IsWaiting (bases places : List (Option ℕ)) (way : List ℕ) : Type 0 where
-  pub unplaced : (x : ℕ) → Contains way x → place places x ≡ None
+pub record IsWayWaiting (bases places : List (Option ℕ)) (way : List ℕ) : Type 0 where
+  pub unplaced : (x : ℕ) → Contains way x → place_in_order places x ≡ None
   pub known : (x : ℕ) → Contains way x → x < length bases
   pub apart : IsDistinct nat_eq way
 
 -- on the way up from a node
 pub record IsClimb (bases places : List (Option ℕ)) (from : ℕ) (next : Option ℕ) (nodes : List ℕ) : Type 0 where
   pub way : IsWay bases next nodes
-  pub waiting : IsWaiting bases places nodes
+  pub waiting : IsWayWaiting bases places nodes
   pub leads : (x b : ℕ) → Contains nodes x → next ≡ Some b → Leads (map option_to_list bases) x b
   pub known : (b : ℕ) → next ≡ Some b → b < length bases
   pub begun : Contains nodes from ⊎ (next ≡ Some from)
 
 -- the order with a node settled is that with what comes next settled, and then the way down to the node
 pub record IsWayTo (bases : List (Option ℕ)) (order : List ℕ) (from : ℕ) (next : Option ℕ) (nodes : List ℕ) : Type 0 where
-  pub settles : (fuel : ℕ) → settled (length nodes + fuel) bases order from ≡ with_base order (settled fuel bases order) next ++ nodes
+  pub settles : (fuel : ℕ) → order_with (length nodes + fuel) bases order from ≡ with_base order (order_with fuel bases order) next ++ nodes
 
 -- on the way down to a node: the base of the topmost has a place
 pub record IsDescent (bases places : List (Option ℕ)) (from : ℕ) (nodes : List ℕ) : Type 0 where
   pub above : Option ℕ
-  pub free : IsFree places above
+  pub free : IsNextFree places above
   pub way : IsWay bases above nodes
-  pub waiting : IsWaiting bases places nodes
-  pub begun : Contains nodes from ⊎ HasPlace places from
+  pub waiting : IsWayWaiting bases places nodes
+  pub begun : Contains nodes from ⊎ HasOrderPlace places from

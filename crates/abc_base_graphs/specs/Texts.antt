@@ -14,16 +14,16 @@ abbrev pub Map : Type 0
 Map = IndexMap (Vec ℕ Global) ℕ (BuildHasherDefault FoldHasher)
 
 -- the number that a map has for a text
-abbrev pub number_at : Map → List ℕ → Option ℕ
-number_at map text = get_by (λ k. bytes_eq text k.items) map
+abbrev pub number_in_map : Map → List ℕ → Option ℕ
+number_in_map map text = get_by (λ k. bytes_eq text k.items) map
 
 -- the number of a text, if it has one
 abbrev pub number_in : Texts → List ℕ → Option ℕ
-number_in t text = number_at t.numbers text
+number_in t text = number_in_map t.numbers text
 
 -- the text has the number, and the others keep theirs
 pub record Notes (old new : Map) (text : List ℕ) (n : ℕ) : Type 0 where
-  pub notes : (t : List ℕ) → number_at new t ≡ cond (bytes_eq t text) (Some n) (number_at old t)
+  pub notes : (t : List ℕ) → number_in_map new t ≡ cond (bytes_eq t text) (Some n) (number_in_map old t)
 
 -- each text has the first place where it stands in the list, and no other text has a number
 pub record HasTexts (t : Texts) (texts : List (List ℕ)) : Type 0 where

@@ -13,15 +13,15 @@ IsWay next at [] = at ≡ None
 IsWay next at (x ∷ xs) = (at ≡ Some x) × IsWay next (next x) xs
 
 -- the first n places
-abbrev pub steps : (ℕ → Option ℕ) → ℕ → Option ℕ → List ℕ
-steps next zero at = []
-steps next (suc n) None = []
-steps next (suc n) (Some x) = x ∷ steps next n (next x)
+abbrev pub places_along : (ℕ → Option ℕ) → ℕ → Option ℕ → List ℕ
+places_along next zero at = []
+places_along next (suc n) None = []
+places_along next (suc n) (Some x) = x ∷ places_along next n (next x)
 
 -- the way itself: from x on there are no more than x + 1 places
 unfoldable pub way : (ℕ → Option ℕ) → Option ℕ → List ℕ
 way next None = []
-way next (Some x) = steps next (suc x) (Some x)
+way next (Some x) = places_along next (suc x) (Some x)
 
 -- the places of a way before one
 abbrev pub before : ℕ → List ℕ → List ℕ
@@ -31,11 +31,11 @@ before y (x ∷ xs) = if nat_eq x y then [] else x ∷ before y xs
 -- ---- of walks
 
 -- a place, if there is one, is below a number
-abbrev pub IsBelow : Option ℕ → ℕ → Type 0
-IsBelow None n = Unit {0}
-IsBelow (Some x) n = x < n
+abbrev pub IsPlaceBelow : Option ℕ → ℕ → Type 0
+IsPlaceBelow None n = Unit {0}
+IsPlaceBelow (Some x) n = x < n
 
 -- how far there is to go at most, from a place on
-abbrev pub left : Option ℕ → ℕ
-left None = 0
-left (Some x) = suc x
+abbrev pub farthest : Option ℕ → ℕ
+farthest None = 0
+farthest (Some x) = suc x

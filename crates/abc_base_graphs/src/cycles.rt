@@ -1,6 +1,6 @@
 ghost use Rattle.std.specs.Prelude.{◌≡◌, ◌<◌, ◌≤◌, ◌^◌, ◌↔◌, All, length, IfOk, IsTrue};
-ghost use Rattle.abc_base_graphs.specs.Graph.{IsGraph, IsFirstReturn, Returns, targets};
-ghost use Rattle.abc_base_graphs.specs.Ranks.{NeverRises, Falls, rank};
+ghost use Rattle.abc_base_graphs.specs.Graph.{IsGraph, IsFirstReturn, Returns, leads_to};
+ghost use Rattle.abc_base_graphs.specs.Ranks.{NeverRises, Falls, rank_of_node};
 
 use crate::ranks::ranks_of;
 use crate::search::{reached, targets_of};
@@ -10,7 +10,7 @@ use std::alloc::Global;
 /// Whether the ranks of some nodes are all at most a limit.
 fn are_at_most(nodes: &Table<u32>, ranks: &[u32], limit: u32) -> bool
     requires { All (λ y. y < length ranks.now) nodes.now }
-    ensures { IsTrue result → All (λ y. rank ranks.now y ≤ limit) nodes.now }
+    ensures { IsTrue result → All (λ y. rank_of_node ranks.now y ≤ limit) nodes.now }
 {
     for y in nodes.as_slice() {
         if ranks[*y as usize] > limit {
@@ -23,7 +23,7 @@ fn are_at_most(nodes: &Table<u32>, ranks: &[u32], limit: u32) -> bool
 /// Whether the ranks of some nodes are all below a limit.
 fn are_below(nodes: &Table<u32>, ranks: &[u32], limit: u32) -> bool
     requires { All (λ y. y < length ranks.now) nodes.now }
-    ensures { IsTrue result → All (λ y. rank ranks.now y < limit) nodes.now }
+    ensures { IsTrue result → All (λ y. rank_of_node ranks.now y < limit) nodes.now }
 {
     for y in nodes.as_slice() {
         if ranks[*y as usize] >= limit {

@@ -1,7 +1,7 @@
 ghost use Rattle.std.specs.Prelude.{◌≡◌, ◌<◌, ◌++◌, ◌∷◌, [], length, nat_eq, IfOk, IfSome, OnOk, OnErr};
 ghost use Rattle.abc_base_graphs.specs.Index.{first};
-ghost use Rattle.abc_base_graphs.specs.Heirs.{inherited, list_at};
-ghost use Rattle.abc_base_graphs.specs.Listed.{joined};
+ghost use Rattle.abc_base_graphs.specs.Heirs.{list_of_base, list_at};
+ghost use Rattle.abc_base_graphs.specs.Listed.{both_lists};
 
 use crate::keyed::Keyed;
 use abc_base::{NoMemory, Table};
@@ -118,7 +118,8 @@ impl<T: Copy + Drop> Heirs<T> {
         keys: &[u32],
     ) -> Result<Keyed<T>, NoMemory>
         requires { IfSome base (λ b. b < length self.now) }
-        ensures { IfOk result (λ k. k ≡ joined (inherited self.now base) (record { values = own.now; keys = keys.now })) }
+        ensures { IfOk result (λ k. k
+            ≡ both_lists (list_of_base self.now base) (record { values = own.now; keys = keys.now })) }
     {
         match base {
             Some(base) => self.list(base).joined(alloc, own, keys),
@@ -139,7 +140,10 @@ impl<T: Copy + Drop> Heirs<T> {
     ) -> Result<(), NoMemory>
         requires base { IfSome base (λ b. b < length self.old) }
         requires paired { length own.now ≡ length keys.now }
-        ensures ok { OnOk result (self.new ≡ self.old ++ joined (inherited self.old base) (record { values = own.now; keys = keys.now }) ∷ []) }
+        ensures ok { OnOk result (self.new
+            ≡ self.old
+            ++ both_lists (list_of_base self.old base) (record { values = own.now; keys = keys.now })
+            ∷ []) }
         ensures err { OnErr result (self.new ≡ self.old) }
     {
         match base {

@@ -1,5 +1,5 @@
 ghost use Rattle.std.specs.Prelude.{◌≡◌, ◌<◌, ◌^◌, length, IfOk};
-ghost use Rattle.abc_base_graphs.specs.Index.{Finds};
+ghost use Rattle.abc_base_graphs.specs.Index.{FindsPlace};
 
 use abc_base::NoMemory;
 use indexmap::IndexMap;
@@ -12,7 +12,7 @@ pub fn index_of<K: Eq + Hash + Copy>(
     keys: &[K],
 ) -> Result<IndexMap<K, u32>, NoMemory>
     requires { length keys.now < 2 ^ 32 }
-    ensures { IfOk result (λ m. Finds K.eq m keys.now) }
+    ensures { IfOk result (λ m. FindsPlace K.eq m keys.now) }
 {
     let mut map = IndexMap::with_capacity(alloc, keys.len())?;
     for i in (0..keys.len()).rev() {

@@ -1,6 +1,6 @@
 ghost use Rattle.std.specs.Prelude.{◌≡◌, ◌<◌, ◌++◌, ◌^◌, [], length, nat_eq, IfOk};
-ghost use Rattle.abc_base_graphs.specs.Index.{Finds, first};
-ghost use Rattle.abc_base_graphs.specs.Listed.{empty, joined as joined_of};
+ghost use Rattle.abc_base_graphs.specs.Index.{FindsPlace, first};
+ghost use Rattle.abc_base_graphs.specs.Listed.{empty_list, both_lists as joined_of};
 
 use crate::index::index_of;
 use abc_base::{NoMemory, Table};
@@ -19,14 +19,14 @@ pub(crate) struct Keyed<T> {
 
 impl<T> Model for Keyed<T> {
     ghost use Rattle.std.specs.Prelude.{nat_eq, length, ◌≡◌};
-    ghost use Rattle.abc_base_graphs.specs.Index.{Finds};
+    ghost use Rattle.abc_base_graphs.specs.Index.{FindsPlace};
     ghost use Rattle.abc_base_graphs.specs.Listed.{Listed};
 
     ghost Value = { Listed T };
 
     ghost view = { λ k. record { values = k.values; keys = k.keys } };
 
-    ghost invariant = { λ k. Finds nat_eq k.places k.keys };
+    ghost invariant = { λ k. FindsPlace nat_eq k.places k.keys };
 }
 
 /// Two lists, one after the other.
@@ -40,7 +40,7 @@ fn concat<T: Copy + Drop>(alloc: Global, a: &[T], b: &[T]) -> Result<Table<T>, N
 
 /// The first place of each key. Of 2^32 keys or more there is never room for the places.
 fn places_of(alloc: Global, keys: &[u32]) -> Result<IndexMap<u32, u32>, NoMemory>
-    ensures { IfOk result (λ m. Finds nat_eq m keys.now) }
+    ensures { IfOk result (λ m. FindsPlace nat_eq m keys.now) }
 {
     if keys.len() > u32::MAX as usize {
         return Err(NoMemory);
@@ -51,7 +51,7 @@ fn places_of(alloc: Global, keys: &[u32]) -> Result<IndexMap<u32, u32>, NoMemory
 impl<T: Copy + Drop> Keyed<T> {
     /// No values.
     pub fn empty(alloc: Global) -> Result<Keyed<T>, NoMemory>
-        ensures { IfOk result (λ k. k ≡ empty) }
+        ensures { IfOk result (λ k. k ≡ empty_list) }
     {
         Keyed::of(alloc, Table::new(alloc), Table::new(alloc))
     }
@@ -69,7 +69,8 @@ impl<T: Copy + Drop> Keyed<T> {
 
     /// These values, and then others under their keys.
     pub fn joined(&self, alloc: Global, values: &[T], keys: &[u32]) -> Result<Keyed<T>, NoMemory>
-        ensures { IfOk result (λ k. k ≡ joined_of self.now (record { values = values.now; keys = keys.now })) }
+        ensures { IfOk result
+            (λ k. k ≡ joined_of self.now (record { values = values.now; keys = keys.now })) }
     {
         let all_values = concat(alloc, self.values.as_slice(), values)?;
         let all_keys = concat(alloc, self.keys.as_slice(), keys)?;

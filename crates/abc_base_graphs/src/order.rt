@@ -1,5 +1,5 @@
 ghost use Rattle.std.specs.Prelude.{◌≡◌, ◌<◌, ◌∷◌, ◌++◌, ◌^◌, [], length, set, replicate, IfOk, OnOk, MatchOption};
-ghost use Rattle.abc_base_graphs.specs.Orders.{IsForest, IsOrder, IsPlaced, IsFree, IsDescent, HasPlace, KeepsPlaces, place, base, settled};
+ghost use Rattle.abc_base_graphs.specs.Orders.{IsForest, IsOrder, AreNodesPlaced, IsNextFree, IsDescent, HasOrderPlace, KeepsPlaces, place_in_order, base_in, order_with};
 
 use crate::stack::Stack;
 use abc_base::{NoMemory, Table};
@@ -16,7 +16,7 @@ impl Order {
     /// The place of a node, if it has one yet.
     #[tactic(auto, using(crate::proofs::Placing::no_entry))]
     fn place(&self, node: u32) -> Option<usize>
-        ensures { result ≡ place self.now.places node }
+        ensures { result ≡ place_in_order self.now.places node }
     {
         match self.places.fetch(node as usize) {
             Some(place) => place,
@@ -28,7 +28,7 @@ impl Order {
 /// The base of a node.
 #[tactic(auto, using(crate::proofs::Placing::no_entry))]
 fn base_of(bases: &Table<Option<u32>>, node: u32) -> Option<u32>
-    ensures { result ≡ base bases.now node }
+    ensures { result ≡ base_in bases.now node }
 {
     match bases.fetch(node as usize) {
         Some(base) => base,
@@ -40,7 +40,8 @@ impl Order {
     /// The node that comes next on a way up, unless it has a place.
     #[tactic(auto, using(crate::proofs::Placing::free_none, crate::proofs::Placing::free_some))]
     fn waiting(&self, next: Option<u32>) -> Option<u32>
-        ensures { MatchOption result (IsFree self.now.places next) (λ x. (next ≡ Some x) × (place self.now.places x ≡ None)) }
+        ensures { MatchOption result (IsNextFree self.now.places next)
+            (λ x. (next ≡ Some x) × (place_in_order self.now.places x ≡ None)) }
     {
         let node = next?;
         match self.place(node) {
@@ -60,9 +61,10 @@ impl Order {
         requires forest { IsForest bases.now }
         requires known { from < length bases.now }
         requires empty { way.old ≡ [] }
-        requires placed { IsPlaced bases.now self.now.nodes self.now.places }
+        requires placed { AreNodesPlaced bases.now self.now.nodes self.now.places }
         ensures descent { IfOk result (λ _. IsDescent bases.now self.now.places from way.new) }
-        ensures settles { IfOk result (λ _. settled (length bases.now) bases.now self.now.nodes from ≡ self.now.nodes ++ way.new) }
+        ensures settles { IfOk result
+            (λ _. order_with (length bases.now) bases.now self.now.nodes from ≡ self.now.nodes ++ way.new) }
     {
         let mut next = Some(from);
         while let Some(node) = self.waiting(next) {
@@ -75,12 +77,13 @@ impl Order {
     /// Gives a node the next place.
     #[tactic(auto, using(crate::proofs::Placing::placed_next))]
     fn settle(&mut self, bases: &Table<Option<u32>>, node: u32) -> Result<(), NoMemory>
-        requires placed { IsPlaced bases.now self.old.nodes self.old.places }
+        requires placed { AreNodesPlaced bases.now self.old.nodes self.old.places }
         requires known { node < length bases.now }
-        requires unplaced { place self.old.places node ≡ None }
-        requires free { IsFree self.old.places (base bases.now node) }
-        ensures placed { OnOk result (IsPlaced bases.now self.new.nodes self.new.places) }
-        ensures set { OnOk result (self.new.places ≡ set self.old.places node (Some (length self.old.nodes))) }
+        requires unplaced { place_in_order self.old.places node ≡ None }
+        requires free { IsNextFree self.old.places (base_in bases.now node) }
+        ensures placed { OnOk result (AreNodesPlaced bases.now self.new.nodes self.new.places) }
+        ensures set { OnOk result
+            (self.new.places ≡ set self.old.places node (Some (length self.old.nodes))) }
         ensures pushed { OnOk result (self.new.nodes ≡ self.old.nodes ++ node ∷ []) }
     {
         let place = self.nodes.len();
@@ -98,12 +101,12 @@ impl Order {
         way: &mut Stack<u32>,
         from: u32,
     ) -> Result<(), NoMemory>
-        requires placed { IsPlaced bases.now self.old.nodes self.old.places }
+        requires placed { AreNodesPlaced bases.now self.old.nodes self.old.places }
         requires descent { IsDescent bases.now self.old.places from way.old }
-        ensures placed { OnOk result (IsPlaced bases.now self.new.nodes self.new.places) }
+        ensures placed { OnOk result (AreNodesPlaced bases.now self.new.nodes self.new.places) }
         ensures pushed { OnOk result (self.new.nodes ≡ self.old.nodes ++ way.old) }
         ensures keeps { OnOk result (KeepsPlaces self.old.places self.new.places) }
-        ensures here { OnOk result (HasPlace self.new.places from) }
+        ensures here { OnOk result (HasOrderPlace self.new.places from) }
         ensures empty { OnOk result (way.new ≡ []) }
     {
         while let Some(node) = way.pop() {

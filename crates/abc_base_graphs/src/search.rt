@@ -1,6 +1,6 @@
 ghost use Rattle.std.specs.Prelude.{◌≡◌, ◌<◌, ◌∷◌, ◌++◌, [], All, length, IfOk, MatchOption};
-ghost use Rattle.abc_base_graphs.specs.Graph.{IsGraph, IsReached, targets};
-ghost use Rattle.abc_base_graphs.specs.Searching.{AddsAll};
+ghost use Rattle.abc_base_graphs.specs.Graph.{IsGraph, AreReachMarks, leads_to};
+ghost use Rattle.abc_base_graphs.specs.Searching.{AddsNodes};
 
 use abc_base::{NoMemory, Table};
 use std::alloc::Global;
@@ -16,7 +16,8 @@ impl Search {
     /// Notes that a node was found.
     fn add(&mut self, node: u32) -> Result<(), NoMemory>
         requires { node < length self.old.found.items }
-        ensures { IfOk result (λ _. AddsAll self.old.found.items self.old.todo.items (node ∷ []) self.new.found.items self.new.todo.items) }
+        ensures { IfOk result (λ _. AddsNodes self.old.found.items self.old.todo.items (node ∷ [])
+            self.new.found.items self.new.todo.items) }
     {
         if !self.found[node as usize] {
             self.todo.push(node)?;
@@ -31,7 +32,8 @@ impl Search {
     #[tactic(auto, using(crate::proofs::Searched::adds_none, crate::proofs::Searched::adds_next, crate::proofs::Searched::in_range))]
     fn add_all(&mut self, nodes: &Table<u32>) -> Result<(), NoMemory>
         requires { All (λ y. y < length self.old.found.items) nodes.now }
-        ensures { IfOk result (λ _. AddsAll self.old.found.items self.old.todo.items nodes.now self.new.found.items self.new.todo.items) }
+        ensures { IfOk result (λ _. AddsNodes self.old.found.items self.old.todo.items nodes.now
+            self.new.found.items self.new.todo.items) }
     {
         for node in nodes.as_slice() {
             self.add(*node)?;
@@ -43,7 +45,7 @@ impl Search {
 /// The nodes that a node leads to by one edge.
 pub(crate) fn targets_of(graph: &Table<Table<u32>>, node: u32) -> &Table<u32>
     requires { node < length graph.now }
-    ensures { result.now ≡ targets graph.now node }
+    ensures { result.now ≡ leads_to graph.now node }
 {
     graph.get(node as usize)
 }
@@ -55,14 +57,16 @@ impl Search {
         requires in_range { IsGraph graph.now }
         requires known { node < length graph.now }
         requires marks { length self.old.found.items ≡ length graph.now }
-        ensures { IfOk result (λ _. AddsAll self.old.found.items self.old.todo.items (targets graph.now node) self.new.found.items self.new.todo.items) }
+        ensures { IfOk result (λ _. AddsNodes self.old.found.items self.old.todo.items
+            (leads_to graph.now node) self.new.found.items self.new.todo.items) }
     {
         self.add_all(targets_of(graph, node))
     }
 
     /// Takes a node whose edges are still to be followed.
     fn next(&mut self) -> Option<u32>
-        ensures taken { MatchOption result ((self.old.todo.items ≡ []) × (self.new.todo.items ≡ [])) (λ x. self.old.todo.items ≡ self.new.todo.items ++ x ∷ []) }
+        ensures taken { MatchOption result ((self.old.todo.items ≡ []) × (self.new.todo.items ≡ []))
+            (λ x. self.old.todo.items ≡ self.new.todo.items ++ x ∷ []) }
         ensures found { self.new.found.items ≡ self.old.found.items }
     {
         self.todo.pop()
@@ -74,7 +78,7 @@ impl Search {
 pub fn reached(alloc: Global, graph: &Table<Table<u32>>, from: u32) -> Result<Vec<bool>, NoMemory>
     requires in_range { IsGraph graph.now }
     requires known { from < length graph.now }
-    ensures { IfOk result (λ marks. IsReached graph.now from marks.items) }
+    ensures { IfOk result (λ marks. AreReachMarks graph.now from marks.items) }
 {
     let found = vec![in alloc; false; graph.len()]?;
     let mut search = Search {

@@ -1,5 +1,5 @@
 ghost use Rattle.std.specs.Prelude.{◌≡◌, None, Some, get_or, length, replicate, set, IfOk, OnOk};
-ghost use Rattle.abc_base_graphs.specs.Marks.{blank, mark_at};
+ghost use Rattle.abc_base_graphs.specs.Marks.{blank, mark_of_turn};
 
 use abc_base::{NoMemory, Table};
 use std::alloc::Global;
@@ -23,11 +23,11 @@ pub struct Slate {
 impl Model for Slate {
     ghost use Rattle.std.specs.Prelude.{List, ℕ, map, All, ◌≤◌};
     ghost use Rattle.std.specs.declared.option.Option.{Option};
-    ghost use Rattle.abc_base_graphs.specs.Marks.{mark_at};
+    ghost use Rattle.abc_base_graphs.specs.Marks.{mark_of_turn};
 
     ghost Value = { List (Option ℕ) };
 
-    ghost view = { λ s. map (mark_at s.turn) s.marks };
+    ghost view = { λ s. map (mark_of_turn s.turn) s.marks };
 
     ghost invariant = { λ s. All (λ m. m.turn ≤ s.turn) s.marks };
 }
@@ -55,7 +55,7 @@ fn put(marks: &mut Table<Mark>, place: u32, mark: Mark)
 
 /// The number of a mark, if it was written in a turn.
 fn number_in(turn: u32, mark: Mark) -> Option<u32>
-    ensures { result ≡ mark_at turn mark }
+    ensures { result ≡ mark_of_turn turn mark }
 {
     if mark.turn == turn {
         Some(mark.number)

@@ -1,31 +1,31 @@
 -- Two lists of heads that tell the same nodes apart give trees that are told apart alike, and so the same visit.
 use Rattle.std.proofs.Common.{◌≡◌, ℕ, ◌<◌, List, [], ◌∷◌, ◌++◌, Bool, true, false, ◌&&◌, ◌||◌, if◌then◌else◌, length, get_or, refl, sym, subst, ◌∙◌, true≢false}
 use Rattle.std.specs.declared.option.Option.{Option}
-use Rattle.abc_base_graphs.specs.Graph.{targets}
+use Rattle.abc_base_graphs.specs.Graph.{leads_to}
 use Rattle.abc_base_trees.specs.declared.heads.Head.{Head}
 use Rattle.abc_base_trees.specs.Alike.{AreAlike}
 use Rattle.abc_base_trees.specs.Classes.{AllClassed, HasClass}
-use Rattle.abc_base_trees.specs.Trees.{Tree, Leaf, Apply, head, head_eq, tree_eq, Grows, Done, More, IsTree, AreTrees, NoTrees, OneMore}
+use Rattle.abc_base_trees.specs.Trees.{Tree, Leaf, Apply, head_of_tree, head_eq, tree_eq, GrowsTrees, Done, More, IsTree, AreTrees, NoTrees, OneMore}
 use Rattle.abc_base_trees.specs.Visits.{is_met, visit, visit_all, visit_parts, IsVisited}
 use Rattle.abc_base_trees.proofs.TreeLaws.{heads_refl, heads_same, one_tree, trees_refl, trees_same}
 use Rattle.abc_base_trees.proofs.Visited.{all_classed}
 
 -- The trees of one node under either list.
 data Same (classes : List (Option ℕ)) (hs ks : List Head) : Tree → Tree → Type 0 where
-  SameLeaf : {x : ℕ} → HasClass classes x → Same classes hs ks (Leaf (head hs x)) (Leaf (head ks x))
+  SameLeaf : {x : ℕ} → HasClass classes x → Same classes hs ks (Leaf (head_of_tree hs x)) (Leaf (head_of_tree ks x))
   SameApply : {t u p q : Tree} → Same classes hs ks t u → Same classes hs ks p q → Same classes hs ks (Apply t p) (Apply u q)
 
-heads_alike : (classes : List (Option ℕ)) (hs ks : List Head) (x y : ℕ) → AreAlike classes hs ks → HasClass classes x → HasClass classes y → head_eq (head hs x) (head hs y) ≡ head_eq (head ks x) (head ks y)
-heads_alike classes hs ks x y k p q = by (head_eq (head hs x) (head hs y)) (head_eq (head ks x) (head ks y)) refl refl
+heads_alike : (classes : List (Option ℕ)) (hs ks : List Head) (x y : ℕ) → AreAlike classes hs ks → HasClass classes x → HasClass classes y → head_eq (head_of_tree hs x) (head_of_tree hs y) ≡ head_eq (head_of_tree ks x) (head_of_tree ks y)
+heads_alike classes hs ks x y k p q = by (head_eq (head_of_tree hs x) (head_of_tree hs y)) (head_eq (head_of_tree ks x) (head_of_tree ks y)) refl refl
   where
     equal : (a b : Head) → a ≡ b → head_eq a b ≡ true
     equal a b e = subst (λ c. head_eq a c ≡ true) e (heads_refl a)
 
-    by : (b c : Bool) → head_eq (head hs x) (head hs y) ≡ b → head_eq (head ks x) (head ks y) ≡ c → head_eq (head hs x) (head hs y) ≡ head_eq (head ks x) (head ks y)
+    by : (b c : Bool) → head_eq (head_of_tree hs x) (head_of_tree hs y) ≡ b → head_eq (head_of_tree ks x) (head_of_tree ks y) ≡ c → head_eq (head_of_tree hs x) (head_of_tree hs y) ≡ head_eq (head_of_tree ks x) (head_of_tree ks y)
     by true true e f = e ∙ sym f
     by false false e f = e ∙ sym f
-    by true false e f = absurd (true≢false (sym (equal (head ks x) (head ks y) (k.there x y p q (heads_same (head hs x) (head hs y) e))) ∙ f))
-    by false true e f = absurd (true≢false (sym (equal (head hs x) (head hs y) (k.back x y p q (heads_same (head ks x) (head ks y) f))) ∙ e))
+    by true false e f = absurd (true≢false (sym (equal (head_of_tree ks x) (head_of_tree ks y) (k.there x y p q (heads_same (head_of_tree hs x) (head_of_tree hs y) e))) ∙ f))
+    by false true e f = absurd (true≢false (sym (equal (head_of_tree hs x) (head_of_tree hs y) (k.back x y p q (heads_same (head_of_tree ks x) (head_of_tree ks y) f))) ∙ e))
 
 eq_same : {classes : List (Option ℕ)} {hs ks : List Head} {a b c d : Tree} → AreAlike classes hs ks → Same classes hs ks a c → Same classes hs ks b d → tree_eq a b ≡ tree_eq c d
 eq_same {classes} {hs} {ks} k (SameLeaf {x = x} p) (SameLeaf {x = y} q) = heads_alike classes hs ks x y k p q
@@ -88,22 +88,22 @@ visit_all_same classes hs ks (t ∷ ts) (u ∷ us) vs ws k all met = visit_all_s
 -- ---- trees of nodes that have classes
 
 abbrev Closed : List (Option ℕ) → List (List ℕ) → Type 0
-Closed classes graph = (x : ℕ) → HasClass classes x → (i : ℕ) → i < length (targets graph x) → HasClass classes (get_or (targets graph x) i 0)
+Closed classes graph = (x : ℕ) → HasClass classes x → (i : ℕ) → i < length (leads_to graph x) → HasClass classes (get_or (leads_to graph x) i 0)
 
 record HasTwin (classes : List (Option ℕ)) (hs ks : List Head) (graph : List (List ℕ)) (xs : List ℕ) (t u : Tree) : Type 0 where
   tree : Tree
-  grows : Grows ks graph xs t tree
+  grows : GrowsTrees ks graph xs t tree
   same : Same classes hs ks u tree
 
-twin : {classes : List (Option ℕ)} {hs ks : List Head} {graph : List (List ℕ)} {xs : List ℕ} {t u : Tree} → Closed classes graph → Grows hs graph xs t u → AllClassed classes xs → (v : Tree) → Same classes hs ks t v → HasTwin classes hs ks graph xs v u
+twin : {classes : List (Option ℕ)} {hs ks : List Head} {graph : List (List ℕ)} {xs : List ℕ} {t u : Tree} → Closed classes graph → GrowsTrees hs graph xs t u → AllClassed classes xs → (v : Tree) → Same classes hs ks t v → HasTwin classes hs ks graph xs v u
 twin closed Done all v s = record { tree = v; grows = Done; same = s }
 twin {classes} {hs} {ks} {graph} closed (More {x = x} p g) all v s =
-    let part = twin closed p (all_classed classes (targets graph x) (closed x all.0)) (Leaf (head ks x)) (SameLeaf all.0) in
+    let part = twin closed p (all_classed classes (leads_to graph x) (closed x all.0)) (Leaf (head_of_tree ks x)) (SameLeaf all.0) in
     let rest = twin closed g all.1 (Apply v part.tree) (SameApply s part.same) in
     record { tree = rest.tree; grows = More part.grows rest.grows; same = rest.same }
 
-tree_twin : (classes : List (Option ℕ)) (hs ks : List Head) (graph : List (List ℕ)) (x : ℕ) (t : Tree) → Closed classes graph → HasClass classes x → IsTree hs graph x t → HasTwin classes hs ks graph (targets graph x) (Leaf (head ks x)) t
-tree_twin classes hs ks graph x t closed h is = twin closed is (all_classed classes (targets graph x) (closed x h)) (Leaf (head ks x)) (SameLeaf h)
+tree_twin : (classes : List (Option ℕ)) (hs ks : List Head) (graph : List (List ℕ)) (x : ℕ) (t : Tree) → Closed classes graph → HasClass classes x → IsTree hs graph x t → HasTwin classes hs ks graph (leads_to graph x) (Leaf (head_of_tree ks x)) t
+tree_twin classes hs ks graph x t closed h is = twin closed is (all_classed classes (leads_to graph x) (closed x h)) (Leaf (head_of_tree ks x)) (SameLeaf h)
 
 record HaveTwins (classes : List (Option ℕ)) (hs ks : List Head) (graph : List (List ℕ)) (xs : List ℕ) (ts : List Tree) : Type 0 where
   trees : List Tree
@@ -125,7 +125,7 @@ seen_twins {classes} {hs} {ks} {graph} k closed all (OneMore {x = x} {t = t} is 
     let one = tree_twin classes hs ks graph x t closed all.0 is in
     OneMore (subst (IsTree ks graph x) (one_twin k one.same same.0) one.grows) (seen_twins k closed all.1 more us same.1)
 
-pub visited_alike : (classes : List (Option ℕ)) (hs ks : List Head) (graph : List (List ℕ)) (roots seen : List ℕ) → AreAlike classes hs ks → ((x : ℕ) → HasClass classes x → (i : ℕ) → i < length (targets graph x) → HasClass classes (get_or (targets graph x) i 0)) → AllClassed classes roots → AllClassed classes seen → IsVisited hs graph roots seen → IsVisited ks graph roots seen
+pub visited_alike : (classes : List (Option ℕ)) (hs ks : List Head) (graph : List (List ℕ)) (roots seen : List ℕ) → AreAlike classes hs ks → ((x : ℕ) → HasClass classes x → (i : ℕ) → i < length (leads_to graph x) → HasClass classes (get_or (leads_to graph x) i 0)) → AllClassed classes roots → AllClassed classes seen → IsVisited hs graph roots seen → IsVisited ks graph roots seen
 visited_alike classes hs ks graph roots seen k closed rooted classed v =
     let r = twins {ks = ks} closed rooted v.rooted in
     record {
@@ -135,7 +135,7 @@ visited_alike classes hs ks graph roots seen k closed rooted classed v =
     }
 
 -- two nodes that have one tree under one list have one under the other
-pub trees_alike : (classes : List (Option ℕ)) (hs ks : List Head) (graph : List (List ℕ)) (x y : ℕ) (t a b : Tree) → AreAlike classes hs ks → ((z : ℕ) → HasClass classes z → (i : ℕ) → i < length (targets graph z) → HasClass classes (get_or (targets graph z) i 0)) → HasClass classes x → HasClass classes y → IsTree ks graph x t → IsTree ks graph y t → IsTree hs graph x a → IsTree hs graph y b → a ≡ b
+pub trees_alike : (classes : List (Option ℕ)) (hs ks : List Head) (graph : List (List ℕ)) (x y : ℕ) (t a b : Tree) → AreAlike classes hs ks → ((z : ℕ) → HasClass classes z → (i : ℕ) → i < length (leads_to graph z) → HasClass classes (get_or (leads_to graph z) i 0)) → HasClass classes x → HasClass classes y → IsTree ks graph x t → IsTree ks graph y t → IsTree hs graph x a → IsTree hs graph y b → a ≡ b
 trees_alike classes hs ks graph x y t a b k closed hx hy bx bys ax ay =
     let p = tree_twin classes hs ks graph x a closed hx ax in
     let q = tree_twin classes hs ks graph y b closed hy ay in

@@ -4,8 +4,8 @@ use Rattle.std.proofs.lemmas.Bool.{cases_lt}
 use Rattle.std.proofs.lemmas.List.{get_or_past}
 use Rattle.std.proofs.lemmas.Option.{get_or_from_slice_get}
 use Rattle.std.proofs.Math.ListN.{set, length-set}
-use Rattle.abc_base_graphs.specs.Graph.{targets}
-use Rattle.abc_base_trees.specs.Effort.{unmarked}
+use Rattle.abc_base_graphs.specs.Graph.{leads_to}
+use Rattle.abc_base_trees.specs.Effort.{effort_unmarked}
 
 pub below_zero : (x : ℕ) → x < 0 → ⊥
 below_zero x lt = omega arith
@@ -13,7 +13,7 @@ below_zero x lt = omega arith
 zero_suc : (n : ℕ) → 0 ≡ suc n → ⊥
 zero_suc n e = omega arith
 
-pub mark_less : (graph : List (List ℕ)) (marks : List Bool) (x : ℕ) → length marks ≡ length graph → x < length graph → get_or marks x true ≡ false → unmarked graph (set marks x true) + (2 + length (targets graph x)) ≡ unmarked graph marks
+pub mark_less : (graph : List (List ℕ)) (marks : List Bool) (x : ℕ) → length marks ≡ length graph → x < length graph → get_or marks x true ≡ false → effort_unmarked graph (set marks x true) + (2 + length (leads_to graph x)) ≡ effort_unmarked graph marks
 mark_less [] marks x len lt e = absurd (below_zero x lt)
 mark_less (xs ∷ graph) [] x len lt e = absurd (zero_suc (length graph) len)
 mark_less (xs ∷ graph) (true ∷ marks) zero len lt e = absurd (true≢false e)
@@ -22,7 +22,7 @@ mark_less (xs ∷ graph) (true ∷ marks) (suc x) len lt e = mark_less graph mar
 mark_less (xs ∷ graph) (false ∷ marks) (suc x) len lt e = let h = mark_less graph marks x (omega arith) (omega arith) e in omega arith
 
 -- entering a node, which leaves it to be left and those that it leads to to be entered
-pub entered : (graph : List (List ℕ)) (marks : List Bool) (x n m : ℕ) → length marks ≡ length graph → x < length graph → get_or marks x true ≡ false → n ≡ length (targets graph x) + suc m → unmarked graph (set marks x true) + n ≤ unmarked graph marks + m
+pub entered : (graph : List (List ℕ)) (marks : List Bool) (x n m : ℕ) → length marks ≡ length graph → x < length graph → get_or marks x true ≡ false → n ≡ length (leads_to graph x) + suc m → effort_unmarked graph (set marks x true) + n ≤ effort_unmarked graph marks + m
 entered graph marks x n m len lt e is = let h = mark_less graph marks x len lt e in omega arith
 
 pub marked_length : (graph : List (List ℕ)) (marks : List Bool) (x : ℕ) → length marks ≡ length graph → length (set marks x true) ≡ length graph
@@ -46,8 +46,8 @@ unset_within marks i e = go (cases_lt i (length marks))
 pub unmarked_within : (marks : List Bool) (i : ℕ) → false ≡ get_or marks i true → i < length marks
 unmarked_within marks i e = unset_within marks i (sym e)
 
-pub entered_less : (graph : List (List ℕ)) (marks marks2 : List Bool) (x n m : ℕ) → length marks ≡ length graph → false ≡ get_or marks x true → marks2 ≡ set marks x true → n ≡ length (targets graph x) + suc m → unmarked graph marks2 + n ≤ unmarked graph marks + m
+pub entered_less : (graph : List (List ℕ)) (marks marks2 : List Bool) (x n m : ℕ) → length marks ≡ length graph → false ≡ get_or marks x true → marks2 ≡ set marks x true → n ≡ length (leads_to graph x) + suc m → effort_unmarked graph marks2 + n ≤ effort_unmarked graph marks + m
 entered_less graph marks marks2 x n m len fresh set_is is =
     let within : x < length marks = unset_within marks x (sym fresh) in
     let lt : x < length graph = omega arith in
-    subst (λ ms. unmarked graph ms + n ≤ unmarked graph marks + m) (sym set_is) (entered graph marks x n m len lt (sym fresh) is)
+    subst (λ ms. effort_unmarked graph ms + n ≤ effort_unmarked graph marks + m) (sym set_is) (entered graph marks x n m len lt (sym fresh) is)

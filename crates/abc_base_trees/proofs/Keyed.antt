@@ -3,7 +3,7 @@ use Rattle.std.proofs.Common.{◌≡◌, ℕ, zero, suc, ◌⊎◌, inl, inr, Li
 use Rattle.std.specs.List.{list_any}
 use Rattle.indexmap.specs.IndexSet.{insert_key}
 use Rattle.abc_base_trees.specs.declared.keys.Key.{Key}
-use Rattle.abc_base_trees.specs.Classes.{keys_eq, AreDistinct, Extends}
+use Rattle.abc_base_trees.specs.Classes.{tree_keys_eq, AreDistinct, Extends}
 
 pub and-left : (a b : Bool) → (a && b) ≡ true → a ≡ true
 and-left true b e = refl
@@ -13,7 +13,7 @@ pub and-right : (a b : Bool) → (a && b) ≡ true → b ≡ true
 and-right true b e = e
 and-right false b e = absurd (true≢false (sym e))
 
-pub keys_same : (a b : Key) → keys_eq a b ≡ true → a ≡ b
+pub keys_same : (a b : Key) → tree_keys_eq a b ≡ true → a ≡ b
 keys_same a b e =
     let r = and-right (nat_eq a.step b.step) _ e in
     let r2 = and-right (nat_eq a.kind b.kind) _ r in
@@ -23,7 +23,7 @@ keys_same a b e =
     let second : a.second ≡ b.second = eqb-true _ _ (and-right (nat_eq a.first b.first) _ r2) in
     λ i. record { step = step i; kind = kind i; first = first i; second = second i }
 
-pub keys_refl : (a : Key) → keys_eq a a ≡ true
+pub keys_refl : (a : Key) → tree_keys_eq a a ≡ true
 keys_refl a =
     let step = eq-eqb a.step a.step refl in
     let kind = eq-eqb a.kind a.kind refl in
@@ -32,7 +32,7 @@ keys_refl a =
     rw step (rw kind (rw first (rw second refl)))
 
 -- what a set has stored at the place of a key is the key
-pub stored_key : (keys : List Key) (c : ℕ) (k stored : Key) → slice_get keys c ≡ Some stored → keys_eq k stored ≡ true → slice_get keys c ≡ Some k
+pub stored_key : (keys : List Key) (c : ℕ) (k stored : Key) → slice_get keys c ≡ Some stored → tree_keys_eq k stored ≡ true → slice_get keys c ≡ Some k
 stored_key keys c k stored at e = at ∙ ap Some (sym (keys_same k stored e))
 
 slice_get-left : (xs ys : List Key) (i : ℕ) (k : Key) → slice_get xs i ≡ Some k → slice_get (xs ++ ys) i ≡ Some k
@@ -49,24 +49,24 @@ extends_refl keys = record { keeps = λ c k e. e }
 pub extends_then : (a b c : List Key) → Extends a b → Extends b c → Extends a c
 extends_then a b c f g = record { keeps = λ i k e. g.keeps i k (f.keeps i k e) }
 
-pub insert_extends : (keys : List Key) (k : Key) → Extends keys (insert_key keys_eq keys k)
-insert_extends keys k = by (list_any (keys_eq k) keys) refl
+pub insert_extends : (keys : List Key) (k : Key) → Extends keys (insert_key tree_keys_eq keys k)
+insert_extends keys k = by (list_any (tree_keys_eq k) keys) refl
   where
-    by : (b : Bool) → list_any (keys_eq k) keys ≡ b → Extends keys (insert_key keys_eq keys k)
+    by : (b : Bool) → list_any (tree_keys_eq k) keys ≡ b → Extends keys (insert_key tree_keys_eq keys k)
     by true e = subst (Extends keys) (sym (ap (λ c. if c then keys else keys ++ k ∷ []) e)) (extends_refl keys)
     by false e = subst (Extends keys) (sym (ap (λ c. if c then keys else keys ++ k ∷ []) e)) (record { keeps = λ i x h. slice_get-left keys (k ∷ []) i x h })
 
 -- a key that is found stands among the keys
-any_at : (keys : List Key) (i : ℕ) (k : Key) → slice_get keys i ≡ Some k → list_any (keys_eq k) keys ≡ true
+any_at : (keys : List Key) (i : ℕ) (k : Key) → slice_get keys i ≡ Some k → list_any (tree_keys_eq k) keys ≡ true
 any_at [] i k e = elim (no i e) [ ]
   where
     no : (i : ℕ) → slice_get [] i ≡ Some k → ⊥
     no i h = cc
 any_at (x ∷ xs) zero k e =
     let q : x ≡ k = cc in
-    let s : keys_eq k x ≡ true = subst (λ y. keys_eq k y ≡ true) (sym q) (keys_refl k) in
+    let s : tree_keys_eq k x ≡ true = subst (λ y. tree_keys_eq k y ≡ true) (sym q) (keys_refl k) in
     rw s refl
-any_at (x ∷ xs) (suc i) k e = or-right (keys_eq k x) _ (any_at xs i k e)
+any_at (x ∷ xs) (suc i) k e = or-right (tree_keys_eq k x) _ (any_at xs i k e)
   where
     or-right : (a b : Bool) → b ≡ true → (a || b) ≡ true
     or-right true b h = refl
@@ -86,7 +86,7 @@ at_pushed (y ∷ xs) k x (suc i) e = go (at_pushed xs k x i e)
     go (inl h) = inl h
     go (inr (h, q)) = inr (ap suc h, q)
 
-push_distinct : (keys : List Key) (k : Key) → AreDistinct keys → list_any (keys_eq k) keys ≡ false → AreDistinct (keys ++ k ∷ [])
+push_distinct : (keys : List Key) (k : Key) → AreDistinct keys → list_any (tree_keys_eq k) keys ≡ false → AreDistinct (keys ++ k ∷ [])
 push_distinct keys k s new = record { one = λ c d x e f. go c d x (at_pushed keys k x c e) (at_pushed keys k x d f) }
   where
     go : (c d : ℕ) (x : Key) → (slice_get keys c ≡ Some x) ⊎ ((c ≡ length keys) × (x ≡ k)) → (slice_get keys d ≡ Some x) ⊎ ((d ≡ length keys) × (x ≡ k)) → c ≡ d
@@ -95,10 +95,10 @@ push_distinct keys k s new = record { one = λ c d x e f. go c d x (at_pushed ke
     go c d x (inl e) (inr (f, q)) = absurd (true≢false (sym (any_at keys c k (e ∙ ap Some q)) ∙ new))
     go c d x (inr (e, p)) (inl f) = absurd (true≢false (sym (any_at keys d k (f ∙ ap Some p)) ∙ new))
 
-pub insert_distinct : (keys : List Key) (k : Key) → AreDistinct keys → AreDistinct (insert_key keys_eq keys k)
-insert_distinct keys k s = by (list_any (keys_eq k) keys) refl
+pub insert_distinct : (keys : List Key) (k : Key) → AreDistinct keys → AreDistinct (insert_key tree_keys_eq keys k)
+insert_distinct keys k s = by (list_any (tree_keys_eq k) keys) refl
   where
-    by : (b : Bool) → list_any (keys_eq k) keys ≡ b → AreDistinct (insert_key keys_eq keys k)
+    by : (b : Bool) → list_any (tree_keys_eq k) keys ≡ b → AreDistinct (insert_key tree_keys_eq keys k)
     by true e = subst AreDistinct (sym (ap (λ c. if c then keys else keys ++ k ∷ []) e)) s
     by false e = subst AreDistinct (sym (ap (λ c. if c then keys else keys ++ k ∷ []) e)) (push_distinct keys k s e)
 

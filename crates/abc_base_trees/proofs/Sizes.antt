@@ -1,9 +1,9 @@
 -- What a node leads to has a smaller tree, so a node that has a tree does not return to itself.
 use Rattle.std.proofs.Common.{◌≡◌, ℕ, ◌+◌, ◌<◌, ◌≤◌, inl, inr, List, Contains, sym, ap, subst, arith}
-use Rattle.abc_base_graphs.specs.Graph.{targets, Leads, Edge, Then, Returns}
+use Rattle.abc_base_graphs.specs.Graph.{leads_to, Leads, Edge, Then, Returns}
 use Rattle.abc_base_trees.specs.declared.heads.Head.{Head}
-use Rattle.abc_base_trees.specs.Orders.{In}
-use Rattle.abc_base_trees.specs.Trees.{Tree, Leaf, Apply, Grows, Done, More, IsTree}
+use Rattle.abc_base_trees.specs.Orders.{StandsIn}
+use Rattle.abc_base_trees.specs.Trees.{Tree, Leaf, Apply, GrowsTrees, Done, More, IsTree}
 use Rattle.abc_base_trees.proofs.TreeLaws.{one_tree}
 use Rattle.abc_base_trees.proofs.Walked.{in_at}
 
@@ -15,7 +15,7 @@ size_some : (t : Tree) → 0 < size t
 size_some (Leaf h) = omega arith
 size_some (Apply t u) = let p = size_some t in omega (arith, p)
 
-grows_more : {heads : List Head} {graph : List (List ℕ)} {xs : List ℕ} {t u : Tree} → Grows heads graph xs t u → size t ≤ size u
+grows_more : {heads : List Head} {graph : List (List ℕ)} {xs : List ℕ} {t u : Tree} → GrowsTrees heads graph xs t u → size t ≤ size u
 grows_more Done = omega arith
 grows_more (More p g) = let h = grows_more g in omega (arith, h)
 
@@ -25,7 +25,7 @@ record IsSmaller (heads : List Head) (graph : List (List ℕ)) (y : ℕ) (t : Tr
   is : IsTree heads graph y tree
   less : size tree < size t
 
-part_smaller : {heads : List Head} {graph : List (List ℕ)} {xs : List ℕ} {t u : Tree} → Grows heads graph xs t u → (y : ℕ) → In y xs → IsSmaller heads graph y u
+part_smaller : {heads : List Head} {graph : List (List ℕ)} {xs : List ℕ} {t u : Tree} → GrowsTrees heads graph xs t u → (y : ℕ) → StandsIn y xs → IsSmaller heads graph y u
 part_smaller Done y h = absurd h
 part_smaller {heads} {graph} (More {t = t} {part = part} p g) y (inl e) = record {
   tree = part;
@@ -34,8 +34,8 @@ part_smaller {heads} {graph} (More {t = t} {part = part} p g) y (inl e) = record
 }
 part_smaller (More p g) y (inr h) = part_smaller g y h
 
-edge_smaller : (heads : List Head) (graph : List (List ℕ)) (x y : ℕ) (t : Tree) → IsTree heads graph x t → Contains (targets graph x) y → IsSmaller heads graph y t
-edge_smaller heads graph x y t is c = part_smaller is y (subst (λ z. In z (targets graph x)) c.2 (in_at (targets graph x) c.0 y c.1))
+edge_smaller : (heads : List Head) (graph : List (List ℕ)) (x y : ℕ) (t : Tree) → IsTree heads graph x t → Contains (leads_to graph x) y → IsSmaller heads graph y t
+edge_smaller heads graph x y t is c = part_smaller is y (subst (λ z. StandsIn z (leads_to graph x)) c.2 (in_at (leads_to graph x) c.0 y c.1))
 
 leads_smaller : {heads : List Head} {graph : List (List ℕ)} {x y : ℕ} {t : Tree} → Leads graph x y → IsTree heads graph x t → IsSmaller heads graph y t
 leads_smaller {heads} {graph} {x} {y} {t} (Edge c) is = edge_smaller heads graph x y t is c

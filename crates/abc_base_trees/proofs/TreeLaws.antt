@@ -2,8 +2,8 @@
 use Rattle.std.proofs.Common.{◌≡◌, ◌≢◌, ℕ, List, [], ◌∷◌, ◌++◌, Bool, true, false, ◌||◌, nat_eq, eqb-true, eq-eqb, Some, refl, sym, ap, subst, ◌∙◌, true≢false, arith}
 use Rattle.abc_base_trees.specs.declared.heads.Head.{Head}
 use Rattle.abc_base_trees.specs.declared.keys.Key.{Key}
-use Rattle.abc_base_trees.specs.Trees.{Tree, Leaf, Apply, no_head, Grows, Done, More, head_eq, tree_eq}
-use Rattle.abc_base_trees.specs.Classes.{leaf_key, apply_key, Means, MeansLeaf, MeansApply, AreDistinct}
+use Rattle.abc_base_trees.specs.Trees.{Tree, Leaf, Apply, no_head, GrowsTrees, Done, More, head_eq, tree_eq}
+use Rattle.abc_base_trees.specs.Classes.{leaf_key, apply_key, MeansTree, MeansLeaf, MeansApply, AreDistinct}
 use Rattle.abc_base_trees.specs.Visits.{is_met}
 use Rattle.abc_base_trees.proofs.Keyed.{and-left, and-right}
 
@@ -99,15 +99,15 @@ met_other t u met ne = met_push t u met ∙ ap (λ b. is_met t met || b) (trees_
 
 -- ---- one tree
 
-pub one_tree : {heads : List Head} {graph : List (List ℕ)} {xs : List ℕ} {t u w : Tree} → Grows heads graph xs t u → Grows heads graph xs t w → u ≡ w
+pub one_tree : {heads : List Head} {graph : List (List ℕ)} {xs : List ℕ} {t u w : Tree} → GrowsTrees heads graph xs t u → GrowsTrees heads graph xs t w → u ≡ w
 one_tree Done Done = refl
 one_tree {heads} {graph} {w = w} (More {xs = xs} {t = t} p g) (More q h) =
-    one_tree g (subst (λ part. Grows heads graph xs (Apply t part) w) (sym (one_tree p q)) h)
+    one_tree g (subst (λ part. GrowsTrees heads graph xs (Apply t part) w) (sym (one_tree p q)) h)
 
 steps_apart : (k l : Key) → k ≡ l → k.step ≡ 0 → l.step ≡ 1 → ⊥
 steps_apart k l e a b = let f : k.step ≡ l.step = ap (λ k. k.step) e in omega arith
 
-pub one_meaning : {keys : List Key} {c : ℕ} {t u : Tree} → Means keys c t → Means keys c u → t ≡ u
+pub one_meaning : {keys : List Key} {c : ℕ} {t u : Tree} → MeansTree keys c t → MeansTree keys c u → t ≡ u
 one_meaning (MeansLeaf {h = h} a) (MeansLeaf {h = k} b) =
     let e : Some (leaf_key h) ≡ Some (leaf_key k) = sym a ∙ b in
     let q : leaf_key h ≡ leaf_key k = cc in
@@ -123,11 +123,11 @@ one_meaning (MeansApply {tree = x} {part = y} a p q) (MeansLeaf {h = h} b) =
 one_meaning {keys} {u = w} (MeansApply {tree = x} {part = y} {t = t} {u = u} a p q) (MeansApply {tree = x2} {part = y2} {t = t2} {u = u2} b p2 q2) =
     let e : Some (apply_key x y) ≡ Some (apply_key x2 y2) = sym a ∙ b in
     let r : apply_key x y ≡ apply_key x2 y2 = cc in
-    let f : t ≡ t2 = one_meaning p (subst (λ n. Means keys n t2) (sym (ap (λ k. k.first) r)) p2) in
-    let g : u ≡ u2 = one_meaning q (subst (λ n. Means keys n u2) (sym (ap (λ k. k.second) r)) q2) in
+    let f : t ≡ t2 = one_meaning p (subst (λ n. MeansTree keys n t2) (sym (ap (λ k. k.first) r)) p2) in
+    let g : u ≡ u2 = one_meaning q (subst (λ n. MeansTree keys n u2) (sym (ap (λ k. k.second) r)) q2) in
     λ i. Apply (f i) (g i)
 
-pub one_class : {keys : List Key} {c d : ℕ} {t u : Tree} → AreDistinct keys → Means keys c t → Means keys d u → t ≡ u → c ≡ d
+pub one_class : {keys : List Key} {c d : ℕ} {t u : Tree} → AreDistinct keys → MeansTree keys c t → MeansTree keys d u → t ≡ u → c ≡ d
 one_class {keys} {c} {d} s (MeansLeaf {h = h} a) (MeansLeaf {h = k} b) e =
     s.one c d (leaf_key h) a (b ∙ ap (λ n. Some (leaf_key n)) (sym (leaf_same h k e)))
 one_class s (MeansLeaf {h = h} a) (MeansApply {t = t} {u = u} b p q) e = absurd (leaf_or_apply h t u e)

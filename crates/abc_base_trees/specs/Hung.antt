@@ -1,7 +1,7 @@
 -- Ranges in a tree.
 use Rattle.std.specs.Prelude.{◌≡◌, ℕ, zero, suc, ◌+◌, ◌/◌, ◌<◌, ◌≤◌, List, Some, length, slice_get}
 use Rattle.abc_base_trees.specs.Pieces.{piece}
-use Rattle.abc_base_trees.specs.Hanging.{Hangs, first_of}
+use Rattle.abc_base_trees.specs.Hanging.{Hangs, first_link}
 use Rattle.abc_base_trees.specs.declared.hang.Range.{Range}
 use Rattle.abc_base_trees.specs.declared.stabs.Stabs.{Stabs}
 
@@ -14,25 +14,25 @@ abbrev pub leaf : Stabs → ℕ → ℕ
 leaf t x = piece t.bounds.items x + leaves t
 
 -- the node so many levels above one
-abbrev pub up : ℕ → ℕ → ℕ
-up zero node = node
-up (suc j) node = up j node / 2
+abbrev pub levels_above : ℕ → ℕ → ℕ
+levels_above zero node = node
+levels_above (suc j) node = levels_above j node / 2
 
 abbrev pub HangsAt : Stabs → ℕ → ℕ → Type 0
-HangsAt t node k = Hangs t.hangs k (first_of t.firsts node)
+HangsAt t node k = Hangs t.hangs k (first_link t.firsts node)
 
 abbrev pub Covers : List Range → ℕ → ℕ → Type 0
 Covers ranges k x = (r : Range) × (slice_get ranges k ≡ Some r) × (r.from ≤ x) × (x < r.to)
 
 -- the ranges that cover a place hang above it, and no others
 pub record AreHung (ranges : List Range) (t : Stabs) : Type 0 where
-  pub every : (k x : ℕ) → Covers ranges k x → (j : ℕ) × HangsAt t (up j (leaf t x)) k
-  pub only : (j k x : ℕ) → HangsAt t (up j (leaf t x)) k → Covers ranges k x
+  pub every : (k x : ℕ) → Covers ranges k x → (j : ℕ) × HangsAt t (levels_above j (leaf t x)) k
+  pub only : (j k x : ℕ) → HangsAt t (levels_above j (leaf t x)) k → Covers ranges k x
 
 -- none covers a place
-abbrev pub IsFree : Stabs → ℕ → Type 0
-IsFree t x = (j k : ℕ) → HangsAt t (up j (leaf t x)) k → ⊥
+abbrev pub IsStabFree : Stabs → ℕ → Type 0
+IsStabFree t x = (j k : ℕ) → HangsAt t (levels_above j (leaf t x)) k → ⊥
 
 -- some range covers the place x
-abbrev pub IsTaken : Stabs → ℕ → Type 0
-IsTaken t x = (j : ℕ) × ((k : ℕ) × HangsAt t (up j (leaf t x)) k)
+abbrev pub IsStabTaken : Stabs → ℕ → Type 0
+IsStabTaken t x = (j : ℕ) × ((k : ℕ) × HangsAt t (levels_above j (leaf t x)) k)

@@ -7,9 +7,9 @@ rows_from begin [] items = []
 rows_from begin (end ∷ ends) items = take (end - begin) (drop begin items) ∷ rows_from end ends items
 
 -- the places never fall, and the last is the end of all
-abbrev pub AreEnds : ℕ → List ℕ → ℕ → Type 0
-AreEnds begin [] all = begin ≡ all
-AreEnds begin (end ∷ ends) all = (begin ≤ end) × AreEnds end ends all
+abbrev pub AreRowEnds : ℕ → List ℕ → ℕ → Type 0
+AreRowEnds begin [] all = begin ≡ all
+AreRowEnds begin (end ∷ ends) all = (begin ≤ end) × AreRowEnds end ends all
 
 -- where a list begins
 abbrev pub begin_of : ℕ → ℕ → List ℕ → ℕ

@@ -5,7 +5,7 @@ use Rattle.std.specs.declared.option.Option.{Option}
 use Rattle.std.specs.List.{list_any}
 use Rattle.abc_base_trees.specs.declared.heads.Head.{Head}
 use Rattle.abc_base_trees.specs.declared.keys.Key.{Key}
-use Rattle.abc_base_trees.specs.Classes.{Means, AllClassed, AreApart, class}
+use Rattle.abc_base_trees.specs.Classes.{MeansTree, AllClassed, HaveOwnClasses, tree_class}
 use Rattle.abc_base_trees.specs.Trees.{Tree, Leaf, Apply, AreTrees, tree_eq}
 
 abbrev pub is_met : Tree → List Tree → Bool
@@ -39,12 +39,12 @@ pub record IsVisit (heads : List Head) (graph : List (List ℕ)) (keys : List Ke
   pub are_coming : AreTrees heads graph todo coming
   pub are_trees : AreTrees heads graph seen trees
   pub rest : visit_all coming trees ≡ final
-  pub marks : (c : ℕ) (t : Tree) → Means keys c t → get_or met c false ≡ is_met t trees
-  pub opens : (x c : ℕ) → get_or opened x false ≡ true → class classes x ≡ Some c → get_or met c false ≡ true
+  pub marks : (c : ℕ) (t : Tree) → MeansTree keys c t → get_or met c false ≡ is_met t trees
+  pub opens : (x c : ℕ) → get_or opened x false ≡ true → tree_class classes x ≡ Some c → get_or met c false ≡ true
   pub classed : AllClassed classes todo
   pub seen_classed : AllClassed classes seen
-  pub seen_met : (i c : ℕ) → i < length seen → class classes (get_or seen i 0) ≡ Some c → get_or met c false ≡ true
-  pub apart : AreApart classes seen
+  pub seen_met : (i c : ℕ) → i < length seen → tree_class classes (get_or seen i 0) ≡ Some c → get_or met c false ≡ true
+  pub apart : HaveOwnClasses classes seen
   pub classes_len : length met ≡ length keys
   pub nodes_len : length opened ≡ length graph
 

@@ -1,8 +1,8 @@
 ghost use Rattle.std.specs.Prelude.{◌≡◌, ◌<◌, ◌↔◌, All, ℕ, [], length, slice_get, Some, IfOk, OnOk, IsTrue, MatchOption};
-ghost use Rattle.abc_base_trees.specs.Classes.{AllClassed, AreClasses, AreDistinct, AreSettled, Extends, Gains, HasClass, HasUnclassed, IsClassOf, class as class_in, keys_eq};
-ghost use Rattle.abc_base_graphs.specs.Graph.{targets};
-ghost use Rattle.abc_base_trees.specs.Trees.{head};
-ghost use Rattle.abc_base_trees.specs.Orders.{In, IsBehind};
+ghost use Rattle.abc_base_trees.specs.Classes.{AllClassed, AreTreeClasses, AreDistinct, AreSettled, Extends, Gains, HasClass, HasUnclassed, IsClassOf, tree_class as class_in, tree_keys_eq};
+ghost use Rattle.abc_base_graphs.specs.Graph.{leads_to};
+ghost use Rattle.abc_base_trees.specs.Trees.{head_of_tree};
+ghost use Rattle.abc_base_trees.specs.Orders.{StandsIn, IsBehindAll};
 ghost use Rattle.indexmap.specs.IndexSet.{insert_key};
 
 use crate::heads::Head;
@@ -24,7 +24,7 @@ impl Classes {
     /// The place of a key, which is added unless it is there.
     #[tactic(auto, using(crate::proofs::Keyed::stored_key))]
     fn add_key(&mut self, key: Key) -> Result<usize, NoMemory>
-        ensures keys { OnOk result (self.new.keys.keys ≡ insert_key keys_eq self.old.keys.keys key) }
+        ensures keys { OnOk result (self.new.keys.keys ≡ insert_key tree_keys_eq self.old.keys.keys key) }
         ensures place { IfOk result (λ c. slice_get self.new.keys.keys c ≡ Some key) }
         ensures classes { self.new.classes ≡ self.old.classes }
     {
@@ -64,7 +64,7 @@ impl Classes {
 /// The nodes that a node leads to.
 pub(crate) fn parts_of(graph: &Rows<u32>, node: u32) -> &[u32]
     requires { node < length graph.now }
-    ensures { result.now ≡ targets graph.now node }
+    ensures { result.now ≡ leads_to graph.now node }
 {
     graph.get(node as usize)
 }
@@ -72,7 +72,7 @@ pub(crate) fn parts_of(graph: &Rows<u32>, node: u32) -> &[u32]
 /// The head of a node.
 fn head_of(heads: &Table<Head>, node: u32) -> Head
     requires { node < length heads.now }
-    ensures { result ≡ head heads.now node }
+    ensures { result ≡ head_of_tree heads.now node }
 {
     *heads.get(node as usize)
 }
@@ -86,14 +86,15 @@ impl Classes {
         graph: &Rows<u32>,
         node: u32,
     ) -> Result<Option<usize>, NoMemory>
-        requires valid { AreClasses heads.now graph.now self.old.keys.keys self.old.classes }
+        requires valid { AreTreeClasses heads.now graph.now self.old.keys.keys self.old.classes }
         requires distinct { AreDistinct self.old.keys.keys }
         requires headed { node < length heads.now }
         requires known { node < length graph.now }
         ensures classes { OnOk result (self.new.classes ≡ self.old.classes) }
         ensures distinct { OnOk result (AreDistinct self.new.keys.keys) }
         ensures extends { OnOk result (Extends self.old.keys.keys self.new.keys.keys) }
-        ensures class { IfOk result (λ r. MatchOption r (HasUnclassed graph.now node self.new.classes) (IsClassOf heads.now graph.now node self.new.keys.keys self.new.classes)) }
+        ensures class { IfOk result (λ r. MatchOption r (HasUnclassed graph.now node self.new.classes)
+            (IsClassOf heads.now graph.now node self.new.keys.keys self.new.classes)) }
     {
         let mut class = self.add_key(key_of_leaf(head_of(heads, node)))?;
         for part in parts_of(graph, node) {
@@ -110,10 +111,10 @@ impl Classes {
     /// Gives a node the class of its tree, if the nodes that it leads to have classes.
     #[tactic(auto, using(crate::proofs::Meanings::settled, crate::proofs::Meanings::extended, crate::proofs::Settled::gains_nothing, crate::proofs::Settled::gains_none, crate::proofs::Settled::gains_one))]
     fn settle(&mut self, heads: &Table<Head>, graph: &Rows<u32>, node: u32) -> Result<(), NoMemory>
-        requires valid { AreClasses heads.now graph.now self.old.keys.keys self.old.classes }
+        requires valid { AreTreeClasses heads.now graph.now self.old.keys.keys self.old.classes }
         requires distinct { AreDistinct self.old.keys.keys }
         requires heads { length heads.now ≡ length graph.now }
-        ensures valid { OnOk result (AreClasses heads.now graph.now self.new.keys.keys self.new.classes) }
+        ensures valid { OnOk result (AreTreeClasses heads.now graph.now self.new.keys.keys self.new.classes) }
         ensures distinct { OnOk result (AreDistinct self.new.keys.keys) }
         ensures gains { OnOk result (Gains graph.now node self.old.classes self.new.classes) }
     {
@@ -135,7 +136,7 @@ fn no_classes(
     graph: &Rows<u32>,
     room: usize,
 ) -> Result<Classes, NoMemory>
-    ensures valid { IfOk result (λ c. AreClasses heads.now graph.now c.keys.keys c.classes) }
+    ensures valid { IfOk result (λ c. AreTreeClasses heads.now graph.now c.keys.keys c.classes) }
     ensures distinct { IfOk result (λ c. AreDistinct c.keys.keys) }
     ensures none { IfOk result (λ c. (y : ℕ) → HasClass c.classes y → ⊥) }
 {
@@ -158,10 +159,12 @@ pub fn classes_of(
     order: &Table<u32>,
 ) -> Result<Classes, NoMemory>
     requires { length heads.now ≡ length graph.now }
-    ensures valid { IfOk result (λ c. AreClasses heads.now graph.now c.keys.keys c.classes) }
+    ensures valid { IfOk result (λ c. AreTreeClasses heads.now graph.now c.keys.keys c.classes) }
     ensures distinct { IfOk result (λ c. AreDistinct c.keys.keys) }
-    ensures only { IfOk result (λ c. (y : ℕ) → HasClass c.classes y → In y order.now) }
-    ensures all { IfOk result (λ c. IsBehind graph.now [] order.now → All (λ y. y < length graph.now) order.now → (y : ℕ) → In y order.now → HasClass c.classes y) }
+    ensures only { IfOk result (λ c. (y : ℕ) → HasClass c.classes y → StandsIn y order.now) }
+    ensures all { IfOk result (λ c. IsBehindAll graph.now [] order.now
+        → All (λ y. y < length graph.now) order.now → (y : ℕ) → StandsIn y order.now
+        → HasClass c.classes y) }
 {
     let mut classes = no_classes(alloc, heads, graph, order.len())?;
     for node in order.as_slice() {

@@ -1,5 +1,5 @@
 ghost use Rattle.std.specs.Prelude.{◌≡◌};
-ghost use Rattle.abc_base_trees.specs.Classes.{apply_key, keys_eq, leaf_key};
+ghost use Rattle.abc_base_trees.specs.Classes.{apply_key, tree_keys_eq, leaf_key};
 
 use crate::heads::Head;
 
@@ -18,7 +18,7 @@ pub struct Key {
 
 /// Whether two keys are equal.
 pub(crate) fn are_equal(a: Key, b: Key) -> bool
-    ensures { result ≡ keys_eq a b }
+    ensures { result ≡ tree_keys_eq a b }
 {
     a == b
 }

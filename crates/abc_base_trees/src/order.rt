@@ -1,8 +1,8 @@
 ghost use Rattle.std.specs.Prelude.{◌≡◌, ◌<◌, ◌≤◌, ◌+◌, ◌∷◌, All, true, length, set, IfOk, OnOk};
-ghost use Rattle.abc_base_graphs.specs.Graph.{IsGraph, targets};
-ghost use Rattle.abc_base_trees.specs.Effort.{unmarked};
-ghost use Rattle.abc_base_trees.specs.Orders.{IsOrder, NoneReturns};
-ghost use Rattle.abc_base_trees.specs.Walks.{IsWalk, leave, pushed};
+ghost use Rattle.abc_base_graphs.specs.Graph.{IsGraph, leads_to};
+ghost use Rattle.abc_base_trees.specs.Effort.{effort_unmarked};
+ghost use Rattle.abc_base_trees.specs.Orders.{IsVisitOrder, NoneReturns};
+ghost use Rattle.abc_base_trees.specs.Walks.{IsWalk, leave, with_entries};
 
 use crate::classes::parts_of;
 use crate::marks::has_mark;
@@ -31,7 +31,7 @@ impl Walk {
     /// Notes that some nodes are to be entered.
     #[tactic(auto, using(crate::proofs::Walked::pushed_next))]
     fn add_all(&mut self, nodes: &[u32]) -> Result<(), NoMemory>
-        ensures todo { OnOk result (self.new.todo ≡ pushed nodes.now self.old.todo) }
+        ensures todo { OnOk result (self.new.todo ≡ with_entries nodes.now self.old.todo) }
         ensures entered { OnOk result (self.new.entered.items ≡ self.old.entered.items) }
         ensures order { OnOk result (self.new.order ≡ self.old.order) }
     {
@@ -51,7 +51,8 @@ impl Walk {
         requires known { node < length graph.now }
         requires within { node < length self.old.entered.items }
         ensures marks { OnOk result (self.new.entered.items ≡ set self.old.entered.items node true) }
-        ensures todo { OnOk result (self.new.todo ≡ pushed (targets graph.now node) (leave node ∷ self.old.todo)) }
+        ensures todo { OnOk result
+            (self.new.todo ≡ with_entries (leads_to graph.now node) (leave node ∷ self.old.todo)) }
         ensures order { OnOk result (self.new.order ≡ self.old.order) }
     {
         self.entered[node as usize] = true;
@@ -69,8 +70,11 @@ impl Walk {
         requires in_range { IsGraph graph.now }
         requires roots { All (λ y. y < length graph.now) _roots.now }
         ensures marks { OnOk result (length self.new.entered.items ≡ length graph.now) }
-        ensures walk { OnOk result (NoneReturns graph.now _roots.now → IsWalk graph.now _roots.now self.old.entered.items self.old.order (task ∷ self.old.todo) → IsWalk graph.now _roots.now self.new.entered.items self.new.order self.new.todo) }
-        ensures less { OnOk result (unmarked graph.now self.new.entered.items + length self.new.todo ≤ unmarked graph.now self.old.entered.items + length self.old.todo) }
+        ensures walk { OnOk result (NoneReturns graph.now _roots.now
+            → IsWalk graph.now _roots.now self.old.entered.items self.old.order (task ∷ self.old.todo)
+            → IsWalk graph.now _roots.now self.new.entered.items self.new.order self.new.todo) }
+        ensures less { OnOk result (effort_unmarked graph.now self.new.entered.items + length self.new.todo
+            ≤ effort_unmarked graph.now self.old.entered.items + length self.old.todo) }
     {
         if task.is_leaving {
             self.order.push(task.node)?;
@@ -93,7 +97,8 @@ pub fn parts_first(
 ) -> Result<Table<u32>, NoMemory>
     requires in_range { IsGraph graph.now }
     requires roots { All (λ y. y < length graph.now) roots.now }
-    ensures { IfOk result (λ order. NoneReturns graph.now roots.now → IsOrder graph.now roots.now order) }
+    ensures { IfOk result
+        (λ order. NoneReturns graph.now roots.now → IsVisitOrder graph.now roots.now order) }
 {
     let entered = vec![in alloc; false; graph.len()]?;
     let mut walk = Walk {

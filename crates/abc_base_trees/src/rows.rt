@@ -19,11 +19,11 @@ impl<T> Model for Rows<T> {
 
     ghost Value = { List (List T) };
 
-    ghost use Rattle.abc_base_trees.specs.Rows.{AreEnds, rows_from};
+    ghost use Rattle.abc_base_trees.specs.Rows.{AreRowEnds, rows_from};
 
     ghost view = { λ r. rows_from 0 r.ends.items r.items.items };
 
-    ghost invariant = { λ r. AreEnds 0 r.ends.items (length r.items.items) };
+    ghost invariant = { λ r. AreRowEnds 0 r.ends.items (length r.items.items) };
 }
 
 /// Where a list begins.

@@ -1,4 +1,4 @@
-ghost use Rattle.abc_base_trees.specs.Hanging.{IsWhole};
+ghost use Rattle.abc_base_trees.specs.Hanging.{AreLinksWhole};
 
 use crate::bounds::piece_of;
 use crate::hang::Hang;
@@ -15,7 +15,7 @@ pub struct Stabs {
     pub(crate) firsts: Table<u32>,
     /// All that hangs anywhere. The link to it is one more than its place here, and 0 leads to nothing.
     pub(crate) hangs: Table<Hang>,
-    ghost whole: { IsWhole bounds.items firsts hangs },
+    ghost whole: { AreLinksWhole bounds.items firsts hangs },
 }
 
 /// How many things can hang.
@@ -23,9 +23,9 @@ const MOST: usize = u32::MAX as usize;
 
 impl Stabs {
     ghost use Rattle.std.specs.Prelude.{◌≡◌, ◌+◌, ◌-◌, ◌*◌, ◌<◌, ◌≤◌, ◌^◌, [], true, false, length, IfSome, OnOk};
-    ghost use Rattle.abc_base_trees.specs.Hanging.{first_of, linked};
-    ghost use Rattle.abc_base_trees.specs.Hung.{IsFree, IsTaken, leaf, leaves};
-    ghost use Rattle.abc_base_trees.specs.Adding.{Adds, Spans};
+    ghost use Rattle.abc_base_trees.specs.Hanging.{first_link, at_link};
+    ghost use Rattle.abc_base_trees.specs.Hung.{IsStabFree, IsStabTaken, leaf, leaves};
+    ghost use Rattle.abc_base_trees.specs.Adding.{AddsAtNode, Spans};
 
     /// No ranges. It takes no memory.
     pub fn new(alloc: Global) -> Stabs
@@ -59,7 +59,7 @@ impl Stabs {
 
     /// The link to what hangs first at a node.
     pub fn first(&self, node: u32) -> u32
-        ensures { result ≡ first_of self.now.firsts node }
+        ensures { result ≡ first_link self.now.firsts node }
     {
         match self.firsts.fetch(node as usize) {
             Some(link) => link,
@@ -69,7 +69,7 @@ impl Stabs {
 
     /// What a link leads to, or `None` where it leads to nothing.
     pub fn find(&self, link: u32) -> Option<Hang>
-        ensures is { result ≡ linked self.now.hangs link }
+        ensures is { result ≡ at_link self.now.hangs link }
         ensures back { IfSome result (λ h. h.next < link) }
     {
         match link.checked_sub(1) {
@@ -80,8 +80,8 @@ impl Stabs {
 
     /// Whether no range covers a place.
     pub fn is_free(&self, place: u32) -> bool
-        ensures free { result ≡ true → IsFree self.now place }
-        ensures taken { result ≡ false → IsTaken self.now place }
+        ensures free { result ≡ true → IsStabFree self.now place }
+        ensures taken { result ≡ false → IsStabTaken self.now place }
     {
         let mut node = self.leaf(place);
         while node > 0 {
@@ -97,7 +97,7 @@ impl Stabs {
     fn hang_at(&mut self, node: u32, number: u32) -> Result<(), NoMemory>
         requires low { 0 < node }
         requires inside { node < length self.old.firsts }
-        ensures { OnOk result (Adds true node number self.old self.new) }
+        ensures { OnOk result (AddsAtNode true node number self.old self.new) }
     {
         if self.hangs.len() >= MOST {
             return Err(NoMemory);
@@ -112,7 +112,7 @@ impl Stabs {
     fn hang_if(&mut self, so: bool, node: u32, number: u32) -> Result<(), NoMemory>
         requires low { 0 < node }
         requires inside { node < length self.old.firsts }
-        ensures { OnOk result (Adds so node number self.old self.new) }
+        ensures { OnOk result (AddsAtNode so node number self.old self.new) }
     {
         if so {
             self.hang_at(node, number)?;

@@ -1,7 +1,7 @@
 ghost use Rattle.std.specs.Prelude.{◌≡◌, ◌<◌, ◌≤◌, ◌+◌, ◌∷◌, ◌++◌, [], List, false, true, get_or, length, set, IfOk, OnOk};
-ghost use Rattle.abc_base_graphs.specs.Graph.{targets};
-ghost use Rattle.abc_base_trees.specs.Classes.{AllClassed, AreApart, AreClasses, AreDistinct};
-ghost use Rattle.abc_base_trees.specs.Effort.{unmarked};
+ghost use Rattle.abc_base_graphs.specs.Graph.{leads_to};
+ghost use Rattle.abc_base_trees.specs.Classes.{AllClassed, HaveOwnClasses, AreTreeClasses, AreDistinct};
+ghost use Rattle.abc_base_trees.specs.Effort.{effort_unmarked};
 ghost use Rattle.abc_base_trees.specs.Trees.{Tree as TreeOf};
 ghost use Rattle.abc_base_trees.specs.Visits.{IsVisit, IsVisited};
 
@@ -50,7 +50,7 @@ impl Visit {
         ensures met { OnOk result (self.new.met.items ≡ set self.old.met.items class true) }
         ensures opened { OnOk result (self.new.opened.items ≡ set self.old.opened.items node true) }
         ensures seen { OnOk result (self.new.seen ≡ self.old.seen ++ node ∷ []) }
-        ensures todo { OnOk result (self.new.todo ≡ targets graph.now node ++ self.old.todo) }
+        ensures todo { OnOk result (self.new.todo ≡ leads_to graph.now node ++ self.old.todo) }
     {
         self.met[class] = true;
         self.opened[node as usize] = true;
@@ -66,12 +66,17 @@ impl Visit {
         classes: &Classes,
         node: u32,
     ) -> Result<(), NoMemory>
-        requires valid { AreClasses _heads.now graph.now classes.now.keys.keys classes.now.classes }
+        requires valid { AreTreeClasses _heads.now graph.now classes.now.keys.keys classes.now.classes }
         requires distinct { AreDistinct classes.now.keys.keys }
         requires nodes { length self.old.opened.items ≡ length graph.now }
         ensures nodes { OnOk result (length self.new.opened.items ≡ length graph.now) }
-        ensures visit { OnOk result ((final : List TreeOf) → IsVisit _heads.now graph.now classes.now.keys.keys classes.now.classes final self.old.met.items self.old.opened.items self.old.seen (node ∷ self.old.todo) → IsVisit _heads.now graph.now classes.now.keys.keys classes.now.classes final self.new.met.items self.new.opened.items self.new.seen self.new.todo) }
-        ensures less { OnOk result (unmarked graph.now self.new.opened.items + length self.new.todo ≤ unmarked graph.now self.old.opened.items + length self.old.todo) }
+        ensures visit { OnOk result ((final : List TreeOf)
+            → IsVisit _heads.now graph.now classes.now.keys.keys classes.now.classes final
+            self.old.met.items self.old.opened.items self.old.seen (node ∷ self.old.todo)
+            → IsVisit _heads.now graph.now classes.now.keys.keys classes.now.classes final
+            self.new.met.items self.new.opened.items self.new.seen self.new.todo) }
+        ensures less { OnOk result (effort_unmarked graph.now self.new.opened.items + length self.new.todo
+            ≤ effort_unmarked graph.now self.old.opened.items + length self.old.todo) }
     {
         match classes.class(node) {
             Some(class) => {
@@ -99,12 +104,12 @@ pub fn visit_order(
     classes: &Classes,
     roots: &Table<u32>,
 ) -> Result<Table<u32>, NoMemory>
-    requires valid { AreClasses heads.now graph.now classes.now.keys.keys classes.now.classes }
+    requires valid { AreTreeClasses heads.now graph.now classes.now.keys.keys classes.now.classes }
     requires distinct { AreDistinct classes.now.keys.keys }
     requires roots { AllClassed classes.now.classes roots.now }
     ensures visited { IfOk result (λ seen. IsVisited heads.now graph.now roots.now seen) }
     ensures classed { IfOk result (AllClassed classes.now.classes) }
-    ensures apart { IfOk result (AreApart classes.now.classes) }
+    ensures apart { IfOk result (HaveOwnClasses classes.now.classes) }
 {
     let met = vec![in alloc; false; classes.keys.len()]?;
     let opened = vec![in alloc; false; graph.len()]?;

@@ -11,13 +11,13 @@ use Rattle.std.proofs.lemmas.Option.{unwrap_or-slice_get}
 use Rattle.abc_file_types.specs.declared.reason.Reason.{Reason}
 use Rattle.abc_file_types.specs.Lists.{chain}
 use Rattle.abc_file_types.specs.Numbers.{index_below, u30}
-use Rattle.abc_file_types.specs.Part.{At, Part, Refusal, checked, image, ◌>>=◌}
+use Rattle.abc_file_types.specs.Part.{At, Part, Refusal, with_test, image, ◌>>=◌}
 use Rattle.std.specs.declared.result.Result.{Result}
 use Rattle.abc_file_types.proofs.Exact.{bind_ok, ok_is}
 use Rattle.abc_file_types.specs.declared.code.Body.{Body}
 use Rattle.abc_file_types.specs.declared.tables.Sizes.{Sizes}
 use Rattle.abc_file_types.specs.Bodies.{body, body_list, body_method, body_with, handler, methods_of}
-use Rattle.abc_file_types.specs.Sizes.{capped}
+use Rattle.abc_file_types.specs.Sizes.{capped_sizes}
 use Rattle.abc_traits.proofs.Alike.{Alike, alike_refl, alike_trans, checked-alike, counted-alike, image-alike, then-alike}
 use Rattle.abc_traits.proofs.Capped.{index_below-capped, pool_index-capped, trait_info-capped}
 use Rattle.abc_bodies.specs.Places.{ArePlaces, KeepPlaces}
@@ -25,10 +25,10 @@ use Rattle.abc_bodies.specs.Reading.{IsFlagged, free_body, free_method, keeping}
 
 -- ---- sizes
 
-tested-alike : {A : Type 0} (test : A → Bool) (reason : Reason) (p q : Part A) → Alike p q → Alike (checked test reason p) (checked test reason q)
+tested-alike : {A : Type 0} (test : A → Bool) (reason : Reason) (p q : Part A) → Alike p q → Alike (with_test test reason p) (with_test test reason q)
 tested-alike test reason p q h = record { same = λ from. rw (h.same from) refl }
 
-handler-capped : (v : Sizes) (starts : List ℕ) → Alike (handler v starts) (handler (capped v) starts)
+handler-capped : (v : Sizes) (starts : List ℕ) → Alike (handler v starts) (handler (capped_sizes v) starts)
 unfolding handler
 handler-capped v starts =
     image-alike _ _ _ (then-alike _ _ _ _ (alike_refl _) (λ _. then-alike _ _ _ _ (alike_refl _) (λ _. then-alike _ _ _ _ (alike_refl _) (λ _.
@@ -38,23 +38,23 @@ body_with-alike : (v : Sizes) (p q : Part ℕ) → Alike p q → Alike (body_wit
 unfolding body_with
 body_with-alike v p q h = image-alike _ _ _ (then-alike _ _ _ _ h (λ _. alike_refl _))
 
-body_with-capped : (v : Sizes) (p : Part ℕ) → Alike (body_with v p) (body_with (capped v) p)
+body_with-capped : (v : Sizes) (p : Part ℕ) → Alike (body_with v p) (body_with (capped_sizes v) p)
 unfolding body_with
 body_with-capped v p =
     image-alike _ _ _ (then-alike _ _ _ _ (alike_refl _) (λ _. then-alike _ _ _ _ (alike_refl _) (λ _. then-alike _ _ _ _ (alike_refl _) (λ _. then-alike _ _ _ _ (alike_refl _) (λ _.
     then-alike _ _ _ _ (alike_refl _) (λ _. then-alike _ _ _ _ (alike_refl _) (λ c.
     then-alike _ _ _ _ (counted-alike _ _ (handler-capped v c.offsets)) (λ _. counted-alike _ _ (trait_info-capped v)))))))))
 
-body-capped : (v : Sizes) (taken : List ℕ) → Alike (body v taken) (body (capped v) taken)
+body-capped : (v : Sizes) (taken : List ℕ) → Alike (body v taken) (body (capped_sizes v) taken)
 unfolding body body_method
 body-capped v taken =
-    alike_trans _ _ _ (body_with-alike v (body_method v taken) (body_method (capped v) taken) (tested-alike _ _ _ _ (index_below-capped v.methods))) (body_with-capped v (body_method (capped v) taken))
+    alike_trans _ _ _ (body_with-alike v (body_method v taken) (body_method (capped_sizes v) taken) (tested-alike _ _ _ _ (index_below-capped v.methods))) (body_with-capped v (body_method (capped_sizes v) taken))
 
 chain-alike : {A : Type 0} (n : ℕ) (p q : List A → Part A) (before : List A) → ((xs : List A) → Alike (p xs) (q xs)) → Alike (chain n p before) (chain n q before)
 chain-alike zero p q before h = alike_refl (chain zero p before)
 chain-alike (suc n) p q before h = image-alike _ _ _ (then-alike (p before) (q before) _ _ (h before) (λ x. chain-alike n p q (before ++ x ∷ []) h))
 
-pub body_list-capped : (v : Sizes) → Alike (body_list v) (body_list (capped v))
+pub body_list-capped : (v : Sizes) → Alike (body_list v) (body_list (capped_sizes v))
 unfolding body_list
 body_list-capped v = image-alike _ _ _ (then-alike _ _ _ _ (alike_refl u30) (λ n. chain-alike n _ _ [] (λ before. body-capped v (methods_of before))))
 

@@ -7,7 +7,7 @@ use Rattle.abc_file_types.specs.Lists.{chain}
 use Rattle.abc_varint.specs.declared.error.ReadError.{ReadError}
 use Rattle.abc_varint.specs.declared.error.ReadError.TheVariants as errors
 use Rattle.abc_varint.specs.View.{View}
-use Rattle.abc_varint.specs.Reads.{Reads, Fails, Input, IsInput, known, stand}
+use Rattle.abc_varint.specs.Reads.{Reads, FailsReading, Input, IsInput, known_input, stand}
 
 -- With the items `before` read so far and `more` to come, what is read in all.
 pub record Chaining {A : Type 0} (p : List A → Part A) (total more : ℕ) (before : List A) (w0 : View) (s0 : Option (List ℕ)) (w : View) (s : Option (List ℕ)) : Type 0 where
@@ -33,7 +33,7 @@ module _ {A : Type 0} (p : List A → Part A) (total more : ℕ) (before : List 
   chain_step less x after k e = sym (rw (k, e) (dropped x ((chain less p (before ++ x ∷ [])).reads after))) ∙ read
 
   -- the next is refused
-  pub chain_stops : (e : ReadError) → 0 < more → Fails e ((p before).reads here) → Fails e ((chain total p []).reads from)
+  pub chain_stops : (e : ReadError) → 0 < more → FailsReading e ((p before).reads here) → FailsReading e ((chain total p []).reads from)
   chain_stops (errors.Refused place reason) lt h =
       let k : more ≡ suc (more - 1) = omega arith in
       let one : (chain more p before).reads here ≡ Err (refusal place reason) = rw (k, h) refl in
@@ -62,7 +62,7 @@ module _ {A : Type 0} (p : List A → Part A) where
   pub chain_fails : (e : ReadError) (total more : ℕ) (before : List A) (w0 : View) (s0 : Option (List ℕ)) (w : View) (s : Option (List ℕ)) (w2 : View) (s2 : Option (List ℕ))
       → 0 < more → Chaining p total more before w0 s0 w s → Reads (p before).reads w s w2 s2 (Err e) → Reads (chain total p []).reads w0 s0 w2 s2 (Err e)
   chain_fails e total more before w0 s0 w s w2 s2 lt g f = λ fresh.
-      let input = known w2 s2 in let h = f g.fresh in
+      let input = known_input w2 s2 in let h = f g.fresh in
       (g.told input h.0, chain_stops p total more before (stand w0 input) (stand w input) (g.same input h.0) e lt h.1)
 
   pub chain_done : (total more : ℕ) (before : List A) (w0 : View) (s0 : Option (List ℕ)) (w : View) (s : Option (List ℕ))

@@ -11,7 +11,7 @@ use Rattle.abc_file_types.specs.declared.tables.Abc.{Abc}
 use Rattle.abc_file_types.specs.declared.tables.Sizes.{Sizes}
 use Rattle.abc_file_types.specs.Bodies.{bodies, body, body_list, methods_of}
 use Rattle.abc_file_types.specs.Classes.{sizes_of}
-use Rattle.abc_file_types.specs.Sizes.{capped}
+use Rattle.abc_file_types.specs.Sizes.{capped_sizes}
 use Rattle.abc_varint.specs.declared.error.ReadError.{ReadError}
 use Rattle.abc_varint.specs.View.{View}
 use Rattle.abc_varint.specs.Reads.{Reads}
@@ -164,7 +164,7 @@ bodies_alike of_places abc =
     alike_trans (image (with_bodies abc) (image (halves of_places) list)) whole (image (keeping of_places) (image placed list)) (image_image (with_bodies abc) (halves of_places) list)
     (alike_sym (image (keeping of_places) (image placed list)) whole (image_image (keeping of_places) placed list))
 
-module _ (abc : Abc) (v : Sizes) (same : v ≡ capped (sizes_of abc)) (w : View) (s : Option (List ℕ)) (w2 : View) (s2 : Option (List ℕ)) where
+module _ (abc : Abc) (v : Sizes) (same : v ≡ capped_sizes (sizes_of abc)) (w : View) (s : Option (List ℕ)) (w2 : View) (s2 : Option (List ℕ)) where
   all_alike : {K : Type 0} (of_places : List (List ℕ) → K) → Alike (image (halves of_places) (body_list v)) (image (halves of_places) (body_list (sizes_of abc)))
   all_alike of_places = image-alike _ _ _ (rw same (alike_sym _ _ (body_list-capped (sizes_of abc))))
 

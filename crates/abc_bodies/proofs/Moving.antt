@@ -6,7 +6,7 @@ use Rattle.std.specs.declared.result.Result.{Result}
 use Rattle.std.proofs.lemmas.List.{length-map}
 use Rattle.abc_file_types.specs.declared.reason.Reason.TheVariants as reasons
 use Rattle.abc_file_types.specs.Canonical.{counted_bytes}
-use Rattle.abc_file_types.specs.Lists.{counted, times}
+use Rattle.abc_file_types.specs.Lists.{count_and_items, times}
 use Rattle.abc_file_types.specs.Numbers.{pool_index, u30}
 use Rattle.abc_file_types.proofs.Exact.{ok_is}
 use Rattle.abc_file_types.specs.Part.{At, Part, Refusal, both, image, refusal, ◌>>=◌}
@@ -61,8 +61,8 @@ maps_times zero g p q m from = refl
 maps_times (suc n) g p q m from =
     maps_image (λ x. (g x.0, map g x.1)) (λ x. x.0 ∷ x.1) (λ x. x.0 ∷ x.1) (map g) (both p (times n p)) (both q (times n q)) (maps_both g (map g) p q (times n p) (times n q) m (maps_times n g p q m)) (λ x. refl) from
 
-pub maps_counted : {A B : Type 0} (g : A → B) (p : Part A) (q : Part B) → Maps g p q → Maps (map g) (counted p) (counted q)
-unfolding counted
+pub maps_counted : {A B : Type 0} (g : A → B) (p : Part A) (q : Part B) → Maps g p q → Maps (map g) (count_and_items p) (count_and_items q)
+unfolding count_and_items
 maps_counted {A = A} {B = B} g p q m from = step (u30.reads from) where
   one : (n : ℕ) (r : Result (List A × At) Refusal) → valued (λ (x : ℕ × List B). x.1) (valued {B = ℕ × List B} (λ ys. (n, ys)) (valued (map g) r)) ≡ valued (map g) (valued (λ (x : ℕ × List A). x.1) (valued {B = ℕ × List A} (λ xs. (n, xs)) r))
   one n (Ok x) = refl
@@ -120,7 +120,7 @@ module _ (os ms : List ℕ) where
       let f : Maps first (both place (both place last)) (both moved (both moved last_moved)) = maps_both moved_to second place moved (both place last) (both moved last_moved) place_moves s in
       maps_image first record_of record_of move (both place (both place last)) (both moved (both moved last_moved)) f (λ x. refl)
 
-  pub handlers_move : (v : Sizes) → Maps (map move) (counted (handler v os)) (counted (moved_handler v (moved_at os ms)))
+  pub handlers_move : (v : Sizes) → Maps (map move) (count_and_items (handler v os)) (count_and_items (moved_handler v (moved_at os ms)))
   handlers_move v = maps_counted move (handler v os) (moved_handler v (moved_at os ms)) (handler_moves v)
 
   each_moved : (hs : List Handler) → flat_map moved_bytes (map move hs) ≡ flat_map (handler_bytes ms) hs

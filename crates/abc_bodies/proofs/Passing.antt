@@ -16,7 +16,7 @@ use Rattle.abc_file_types.specs.Classes.{sizes_of}
 use Rattle.abc_varint.specs.declared.error.ReadError.{ReadError}
 use Rattle.abc_varint.specs.Passes.{Passes}
 use Rattle.abc_varint.specs.View.{View}
-use Rattle.abc_varint.specs.Reads.{Reads, Fails, Input, IsInput, known, stand}
+use Rattle.abc_varint.specs.Reads.{Reads, FailsReading, Input, IsInput, known_input, stand}
 use Rattle.abc_bodies.specs.Reading.{IsFlagged, free_body}
 use Rattle.abc_bodies.proofs.Alike.{flags_up, free_body-alike, no_flags}
 use Rattle.abc_bodies.proofs.Chaining.{chain_begins, chain_ends, chain_step, chain_stops}
@@ -49,9 +49,9 @@ module _ (entry : Body × List ℕ → List ℕ) (v : Sizes) (total : ℕ) (w0 :
     ends_at = refl;
     told = λ input is. is;
     count = ap length is ∙ length-replicate v.methods false;
-    same = λ input known. record {
+    same = λ input known_input. record {
       before = [];
-      read = (chain_begins (next_body v) total w0 s0 fresh).same input known;
+      read = (chain_begins (next_body v) total w0 s0 fresh).same input known_input;
       flagged = rw is (no_flags v.methods);
       many = omega arith;
       bytes = sym (append-nil old);
@@ -85,10 +85,10 @@ module _ (entry : Body × List ℕ → List ℕ) (v : Sizes) (total : ℕ) (w0 :
   pub fails : {T : Type 0} (told : List (Body × List ℕ) → T) (e : ReadError) (more : ℕ) (flags : List Bool) (new new2 : List ℕ) (w : View) (s : Option (List ℕ)) (w2 : View) (s2 : Option (List ℕ))
       → 0 < more → PassesBodies entry v total more flags old new w0 s0 w s → Reads (free_body v flags).reads w s w2 s2 (Err e) → Passes (chain total (next_body v) []) (flat_map entry) told w0 s0 w2 s2 old new2 (Err e)
   fails told e more flags new new2 w s w2 s2 lt g r = λ fresh.
-      let input = known w2 s2 in
+      let input = known_input w2 s2 in
       let h = r g.fresh in
       let m = g.same input h.0 in
-      let next = subst (λ (z : Result ((Body × List ℕ) × At) Refusal). Fails e z) ((free_body-alike v flags (methods_of m.before) g.count m.flagged).same (stand w input)) h.1 in
+      let next = subst (λ (z : Result ((Body × List ℕ) × At) Refusal). FailsReading e z) ((free_body-alike v flags (methods_of m.before) g.count m.flagged).same (stand w input)) h.1 in
       (g.told input h.0, chain_stops (next_body v) total more m.before (stand w0 input) (stand w input) m.read e lt next)
 
   pub passed : (more : ℕ) (flags : List Bool) (new : List ℕ) (w : View) (s : Option (List ℕ))

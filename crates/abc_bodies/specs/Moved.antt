@@ -3,14 +3,14 @@ use Rattle.std.specs.Prelude.{ℕ, ◌++◌, List, is_some, unwrap_or}
 use Rattle.std.specs.declared.option.Option.{Option}
 use Rattle.abc_base.specs.Numbers.{number_bytes}
 use Rattle.abc_file_types.specs.declared.reason.Reason.TheVariants as reasons
-use Rattle.abc_file_types.specs.Part.{Part, both, checked, image}
+use Rattle.abc_file_types.specs.Part.{Part, both, with_test, image}
 use Rattle.abc_file_types.specs.Numbers.{pool_index, u30}
 use Rattle.abc_file_types.specs.declared.code.Handler.{Handler}
 use Rattle.abc_file_types.specs.declared.tables.Sizes.{Sizes}
 
 -- the start of an instruction, or the end, as where these marks say that it is moved to
 unfoldable pub moved_place : (ℕ → Option ℕ) → Part ℕ
-moved_place marks = image (λ x. unwrap_or (marks x) 0) (checked (λ x. is_some (marks x)) reasons.HandlerRange u30)
+moved_place marks = image (λ x. unwrap_or (marks x) 0) (with_test (λ x. is_some (marks x)) reasons.HandlerRange u30)
 
 -- three such places, a type and a name
 unfoldable pub moved_handler : Sizes → (ℕ → Option ℕ) → Part Handler

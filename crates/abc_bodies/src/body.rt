@@ -1,5 +1,5 @@
 ghost use Rattle.std.specs.Prelude.{◌≡◌, ◌≤◌, ◌<◌, ◌+◌, ◌^◌, None, Some, Err, false, IfOk, List, ℕ, length, slice_get};
-ghost use Rattle.abc_bodies.specs.Reading.{IsFlagged, is_free, free_method, free_body, with_starts};
+ghost use Rattle.abc_bodies.specs.Reading.{IsFlagged, is_flag_down, free_method, free_body, body_with_starts};
 ghost use Rattle.abc_file_types.specs.Bodies.{body, body_with, IsReadyBody};
 ghost use Rattle.abc_varint.specs.Reads.{Reads, ReadsPart};
 
@@ -13,7 +13,7 @@ use std::alloc::Global;
 
 /// Whether the method's flag is down.
 fn is_down(flags: &Table<bool>, method: u32) -> bool
-    ensures { result ≡ is_free flags.now method }
+    ensures { result ≡ is_flag_down flags.now method }
 {
     match flags.fetch(method as usize) {
         Some(up) => !up,
@@ -29,7 +29,8 @@ pub fn read_method<S: Source>(
     sizes: &Sizes,
     flags: &Table<bool>,
 ) -> Result<u32, ReadError>
-    ensures value { ReadsPart S.left S.faults (free_method sizes.now flags.now) w.old source.old w.new source.new result }
+    ensures value { ReadsPart S.left S.faults (free_method sizes.now flags.now) w.old source.old w.new
+        source.new result }
     ensures free { IfOk result (λ m. slice_get flags.now m ≡ Some false) }
 {
     let place = w.place();
@@ -53,7 +54,8 @@ fn read_free_body<S: Source>(
     flags: &Table<bool>,
     reading: &mut Reading,
 ) -> Result<Body, ReadError>
-    ensures value { ReadsPart S.left S.faults (free_body sizes.now flags.now) w.old source.old w.new source.new (with_starts result (reading.new).starts) }
+    ensures value { ReadsPart S.left S.faults (free_body sizes.now flags.now) w.old source.old w.new
+        source.new (body_with_starts result (reading.new).starts) }
     ensures free { IfOk result (λ b. slice_get flags.now b.method ≡ Some false) }
     ensures count { IfOk result (λ b. length (reading.new).starts ≡ length b.code + 1) }
     ensures ready { IfOk result IsReadyBody }
@@ -88,8 +90,11 @@ pub fn read_body<S: Source>(
     flags: &Table<bool>,
     reading: &mut Reading,
 ) -> Result<Body, ReadError>
-    ensures defined { (taken : List ℕ) → length flags.now ≡ (sizes.now).methods → IsFlagged flags.now taken → ReadsPart S.left S.faults (body sizes.now taken) w.old source.old w.new source.new (with_starts result (reading.new).starts) }
-    ensures value { ReadsPart S.left S.faults (free_body sizes.now flags.now) w.old source.old w.new source.new (with_starts result (reading.new).starts) }
+    ensures defined { (taken : List ℕ) → length flags.now ≡ (sizes.now).methods → IsFlagged flags.now taken
+        → ReadsPart S.left S.faults (body sizes.now taken) w.old source.old w.new source.new
+        (body_with_starts result (reading.new).starts) }
+    ensures value { ReadsPart S.left S.faults (free_body sizes.now flags.now) w.old source.old w.new
+        source.new (body_with_starts result (reading.new).starts) }
     ensures free { IfOk result (λ b. slice_get flags.now b.method ≡ Some false) }
     ensures count { IfOk result (λ b. length (reading.new).starts ≡ length b.code + 1) }
     ensures ready { IfOk result IsReadyBody }

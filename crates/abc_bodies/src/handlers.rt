@@ -2,12 +2,12 @@ ghost use Rattle.std.specs.Prelude.{◌≡◌, ◌≤◌, ◌<◌, ◌-◌, ◌^
 ghost use Rattle.std.specs.List.{flat_map};
 ghost use Rattle.abc_base.specs.Numbers.{number_bytes};
 ghost use Rattle.abc_file_types.specs.Canonical.{counted_bytes};
-ghost use Rattle.abc_file_types.specs.Lists.{times, counted};
-ghost use Rattle.abc_file_types.specs.Bodies.{handler as handler_part, handler_bytes, IsWithin};
+ghost use Rattle.abc_file_types.specs.Lists.{times, count_and_items};
+ghost use Rattle.abc_file_types.specs.Bodies.{handler as handler_part, handler_bytes, IsHandlerWithin};
 ghost use Rattle.abc_file_types.specs.Starts.{IsRising};
 ghost use Rattle.abc_instr.specs.Marks.{mark_at};
 ghost use Rattle.abc_bodies.specs.Moved.{moved_bytes, moved_handler, moved_place};
-ghost use Rattle.abc_varint.specs.Passes.{Passes, PassesPart, nothing};
+ghost use Rattle.abc_varint.specs.Passes.{Passes, PassesPart, nothing_told};
 ghost use Rattle.abc_varint.specs.Puts.{Puts};
 ghost use Rattle.abc_varint.specs.Reads.{Reads, ReadsPart};
 
@@ -29,8 +29,9 @@ fn read_handler<S: Source>(
 ) -> Result<Handler, ReadError>
     requires rising { IsRising starts.now }
     requires few { length starts.now < 2 ^ 32 }
-    ensures value { ReadsPart S.left S.faults (handler_part sizes.now starts.now) w.old source.old w.new source.new result }
-    ensures within { IfOk result (IsWithin (length starts.now - 1)) }
+    ensures value { ReadsPart S.left S.faults (handler_part sizes.now starts.now) w.old source.old w.new
+        source.new result }
+    ensures within { IfOk result (IsHandlerWithin (length starts.now - 1)) }
 {
     let from = read_place(w, source, starts.as_slice())?;
     let to = read_place(w, source, starts.as_slice())?;
@@ -58,8 +59,9 @@ fn read_each_handler<S: Source>(
     requires rising { IsRising starts.now }
     requires few { length starts.now < 2 ^ 32 }
     requires fresh { w.old.kept ≡ None }
-    ensures value { ReadsPart S.left S.faults (times count (handler_part sizes.now starts.now)) w.old source.old w.new source.new result }
-    ensures within { IfOk result (All (IsWithin (length starts.now - 1))) }
+    ensures value { ReadsPart S.left S.faults (times count (handler_part sizes.now starts.now)) w.old
+        source.old w.new source.new result }
+    ensures within { IfOk result (All (IsHandlerWithin (length starts.now - 1))) }
 {
     let mut handlers = Table::new(alloc);
     for _ in 0..count {
@@ -70,7 +72,7 @@ fn read_each_handler<S: Source>(
 }
 
 /// A count and that many exceptions, over code whose instructions start so.
-#[tactic(auto, unfolding(abc_file_types::specs::Lists::counted))]
+#[tactic(auto, unfolding(abc_file_types::specs::Lists::count_and_items))]
 pub fn read_handlers<S: Source>(
     alloc: Global,
     w: &mut Window,
@@ -80,8 +82,9 @@ pub fn read_handlers<S: Source>(
 ) -> Result<Table<Handler>, ReadError>
     requires rising { IsRising starts.now }
     requires few { length starts.now < 2 ^ 32 }
-    ensures value { ReadsPart S.left S.faults (counted (handler_part sizes.now starts.now)) w.old source.old w.new source.new result }
-    ensures within { IfOk result (All (IsWithin (length starts.now - 1))) }
+    ensures value { ReadsPart S.left S.faults (count_and_items (handler_part sizes.now starts.now)) w.old
+        source.old w.new source.new result }
+    ensures within { IfOk result (All (IsHandlerWithin (length starts.now - 1))) }
 {
     let count = read_u30(w, source)?;
     let handlers = read_each_handler(alloc, w, source, sizes, starts, count)?;
@@ -100,7 +103,7 @@ fn put_place(starts: &Table<u32>, place: u32, out: &mut Vec<u8>) -> Result<(), N
 #[tactic(auto, unfolding(abc_file_types::specs::Bodies::handler_bytes), using(abc_varint::proofs::Putting::stays, std::proofs::Common::append_assoc))]
 fn put_handler(starts: &Table<u32>, handler: &Handler, out: &mut Vec<u8>) -> Result<(), NoMemory>
     requires some { 0 < length starts.now }
-    requires within { IsWithin (length starts.now - 1) handler.now }
+    requires within { IsHandlerWithin (length starts.now - 1) handler.now }
     ensures { Puts out.old.items out.new.items result (handler_bytes starts.now handler.now) }
 {
     put_place(starts, handler.from, out)?;
@@ -119,7 +122,7 @@ fn put_each_handler(
     out: &mut Vec<u8>,
 ) -> Result<(), NoMemory>
     requires some { 0 < length starts.now }
-    requires within { All (IsWithin (length starts.now - 1)) handlers.now }
+    requires within { All (IsHandlerWithin (length starts.now - 1)) handlers.now }
     ensures { Puts out.old.items out.new.items result (flat_map (handler_bytes starts.now) handlers.now) }
 {
     for handler in handlers.as_slice() {
@@ -136,8 +139,9 @@ pub fn put_handlers(
     out: &mut Vec<u8>,
 ) -> Result<(), NoMemory>
     requires some { 0 < length starts.now }
-    requires within { All (IsWithin (length starts.now - 1)) handlers.now }
-    ensures { Puts out.old.items out.new.items result (counted_bytes (handler_bytes starts.now) handlers.now) }
+    requires within { All (IsHandlerWithin (length starts.now - 1)) handlers.now }
+    ensures { Puts out.old.items out.new.items result
+        (counted_bytes (handler_bytes starts.now) handlers.now) }
 {
     put_count(handlers.len(), out)?;
     put_each_handler(starts, handlers, out)?;
@@ -153,7 +157,8 @@ fn pass_place<S: Source>(
     marks: &Marks,
     out: &mut Vec<u8>,
 ) -> Result<(), ReadError>
-    ensures { PassesPart S.left S.faults (moved_place (mark_at marks.now)) number_bytes nothing w.old source.old w.new source.new out.old.items out.new.items result }
+    ensures { PassesPart S.left S.faults (moved_place (mark_at marks.now)) number_bytes nothing_told w.old
+        source.old w.new source.new out.old.items out.new.items result }
 {
     let place = w.place();
     let x = read_u30(w, source)?;
@@ -179,7 +184,8 @@ fn pass_handler<S: Source>(
     marks: &Marks,
     out: &mut Vec<u8>,
 ) -> Result<(), ReadError>
-    ensures { PassesPart S.left S.faults (moved_handler sizes.now (mark_at marks.now)) moved_bytes nothing w.old source.old w.new source.new out.old.items out.new.items result }
+    ensures { PassesPart S.left S.faults (moved_handler sizes.now (mark_at marks.now)) moved_bytes
+        nothing_told w.old source.old w.new source.new out.old.items out.new.items result }
 {
     pass_place(w, source, marks, out)?;
     pass_place(w, source, marks, out)?;
@@ -200,7 +206,9 @@ fn pass_each_handler<S: Source>(
     out: &mut Vec<u8>,
 ) -> Result<(), ReadError>
     requires fresh { w.old.kept ≡ None }
-    ensures { PassesPart S.left S.faults (times count (moved_handler sizes.now (mark_at marks.now))) (flat_map moved_bytes) nothing w.old source.old w.new source.new out.old.items out.new.items result }
+    ensures { PassesPart S.left S.faults (times count (moved_handler sizes.now (mark_at marks.now)))
+        (flat_map moved_bytes) nothing_told w.old source.old w.new source.new out.old.items out.new.items
+        result }
 {
     for _ in 0..count {
         pass_handler(alloc, w, source, sizes, marks, out)?;
@@ -210,7 +218,7 @@ fn pass_each_handler<S: Source>(
 
 /// Passes a count and that many exceptions, over code whose instructions are moved as the marks say. Gives how many there
 /// are.
-#[tactic(auto, unfolding(abc_file_types::specs::Lists::counted, abc_file_types::specs::Canonical::counted_bytes))]
+#[tactic(auto, unfolding(abc_file_types::specs::Lists::count_and_items, abc_file_types::specs::Canonical::counted_bytes))]
 pub fn pass_handlers<S: Source>(
     alloc: Global,
     w: &mut Window,
@@ -219,7 +227,9 @@ pub fn pass_handlers<S: Source>(
     marks: &Marks,
     out: &mut Vec<u8>,
 ) -> Result<u32, ReadError>
-    ensures { PassesPart S.left S.faults (counted (moved_handler sizes.now (mark_at marks.now))) (counted_bytes moved_bytes) length w.old source.old w.new source.new out.old.items out.new.items result }
+    ensures { PassesPart S.left S.faults (count_and_items (moved_handler sizes.now (mark_at marks.now)))
+        (counted_bytes moved_bytes) length w.old source.old w.new source.new out.old.items out.new.items
+        result }
 {
     let total = read_u30(w, source)?;
     put_u30(total, out)?;

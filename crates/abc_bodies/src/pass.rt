@@ -4,9 +4,9 @@ ghost use Rattle.abc_base.specs.Numbers.{number_bytes};
 ghost use Rattle.abc_file_types.specs.Canonical.{counted_bytes};
 ghost use Rattle.abc_file_types.specs.Lists.{chain};
 ghost use Rattle.abc_file_types.specs.Numbers.{u30 as small};
-ghost use Rattle.abc_bodies.specs.Reading.{free_body, rest, rest_bytes};
+ghost use Rattle.abc_bodies.specs.Reading.{free_body, part_behind_sizes, rest_bytes};
 ghost use Rattle.abc_file_types.specs.Bodies.{body, body_bytes, body_list, methods_of};
-ghost use Rattle.abc_varint.specs.Passes.{Passes, PassesPart, nothing};
+ghost use Rattle.abc_varint.specs.Passes.{Passes, PassesPart, nothing_told};
 ghost use Rattle.abc_varint.specs.Reads.{Reads, ReadsPart};
 
 use crate::body::read_method;
@@ -22,7 +22,8 @@ use std::alloc::Global;
 /// Passes one of the four sizes.
 #[inline(always)]
 fn pass_size<S: Source>(w: &mut Window, source: &mut S, out: &mut Vec<u8>) -> Result<(), ReadError>
-    ensures { PassesPart S.left S.faults small number_bytes nothing w.old source.old w.new source.new out.old.items out.new.items result }
+    ensures { PassesPart S.left S.faults small number_bytes nothing_told w.old source.old w.new source.new
+        out.old.items out.new.items result }
 {
     let x = read_u30(w, source)?;
     put_u30(x, out)?;
@@ -30,7 +31,7 @@ fn pass_size<S: Source>(w: &mut Window, source: &mut S, out: &mut Vec<u8>) -> Re
 }
 
 /// Passes what follows the sizes of a body: code, exceptions and traits.
-#[tactic(auto, unfolding(crate::specs::Reading::rest))]
+#[tactic(auto, unfolding(crate::specs::Reading::part_behind_sizes))]
 fn pass_rest<S: Source>(
     alloc: Global,
     w: &mut Window,
@@ -39,7 +40,8 @@ fn pass_rest<S: Source>(
     scan: &mut Scan,
     out: &mut Vec<u8>,
 ) -> Result<(), ReadError>
-    ensures { PassesPart S.left S.faults (rest sizes.now) rest_bytes nothing w.old source.old w.new source.new out.old.items out.new.items result }
+    ensures { PassesPart S.left S.faults (part_behind_sizes sizes.now) rest_bytes nothing_told w.old
+        source.old w.new source.new out.old.items out.new.items result }
 {
     pass_code(alloc, w, source, scan, out)?;
     pass_handlers(alloc, w, source, sizes, &scan.marks, out)?;
@@ -58,7 +60,8 @@ fn pass_body<S: Source>(
     scan: &mut Scan,
     out: &mut Vec<u8>,
 ) -> Result<u32, ReadError>
-    ensures value { PassesPart S.left S.faults (free_body sizes.now flags.now) (λ x. body_bytes x.0) (λ x. (x.0).method) w.old source.old w.new source.new out.old.items out.new.items result }
+    ensures value { PassesPart S.left S.faults (free_body sizes.now flags.now) (λ x. body_bytes x.0)
+        (λ x. (x.0).method) w.old source.old w.new source.new out.old.items out.new.items result }
     ensures free { IfOk result (λ m. slice_get flags.now m ≡ Some false) }
 {
     let method = read_method(w, source, sizes, flags)?;
@@ -81,7 +84,9 @@ fn pass_each_body<S: Source>(
     out: &mut Vec<u8>,
 ) -> Result<u32, ReadError>
     requires fresh { w.old.kept ≡ None }
-    ensures value { PassesPart S.left S.faults (chain count (λ before. body sizes.now (methods_of before)) []) (flat_map (λ x. body_bytes x.0)) length w.old source.old w.new source.new out.old.items out.new.items result }
+    ensures value { PassesPart S.left S.faults (chain count (λ before. body sizes.now (methods_of before)) [])
+        (flat_map (λ x. body_bytes x.0)) length w.old source.old w.new source.new out.old.items out.new.items
+        result }
     ensures count { IfOk result (λ n. n ≡ count) }
 {
     let mut has_body = flags_down(alloc, sizes.methods)?;
@@ -103,7 +108,9 @@ pub fn pass_bodies<S: Source>(
     sizes: &Sizes,
     out: &mut Vec<u8>,
 ) -> Result<(), ReadError>
-    ensures { PassesPart S.left S.faults (body_list sizes.now) (λ xs. counted_bytes body_bytes (map (λ x. x.0) xs)) nothing w.old source.old w.new source.new out.old.items out.new.items result }
+    ensures { PassesPart S.left S.faults (body_list sizes.now)
+        (λ xs. counted_bytes body_bytes (map (λ x. x.0) xs)) nothing_told w.old source.old w.new source.new
+        out.old.items out.new.items result }
 {
     let count = read_u30(w, source)?;
     put_u30(count, out)?;

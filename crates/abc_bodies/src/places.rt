@@ -45,7 +45,8 @@ pub trait Keeping: Drop {
 
     /// Keeps the places of another body, after those of the others.
     fn keep(&mut self, starts: &[u32]) -> Result<(), NoMemory>
-        ensures { OnOk result ((places : List (List ℕ)) → self.old ≡ of_places places → self.new ≡ of_places (places ++ starts.now ∷ [])) };
+        ensures { OnOk result ((places : List (List ℕ)) → self.old ≡ of_places places
+            → self.new ≡ of_places (places ++ starts.now ∷ [])) };
 }
 
 impl Keeping for Places {

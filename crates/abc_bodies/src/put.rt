@@ -17,7 +17,9 @@ use std::alloc::Global;
 /// Appends the method and the four sizes.
 #[tactic(auto, using(abc_varint::proofs::Putting::stays, std::proofs::Common::append_assoc))]
 fn put_sizes(body: &Body, out: &mut Vec<u8>) -> Result<(), NoMemory>
-    ensures { Puts out.old.items out.new.items result (number_bytes (body.now).method ++ number_bytes (body.now).max_stack ++ number_bytes (body.now).local_count ++ number_bytes (body.now).init_scope ++ number_bytes (body.now).max_scope) }
+    ensures { Puts out.old.items out.new.items result (number_bytes (body.now).method
+        ++ number_bytes (body.now).max_stack ++ number_bytes (body.now).local_count
+        ++ number_bytes (body.now).init_scope ++ number_bytes (body.now).max_scope) }
 {
     put_u30(body.method, out)?;
     put_u30(body.max_stack, out)?;

@@ -4,7 +4,7 @@ ghost use Rattle.abc_bodies.specs.Reading.{halves, keeping, with_places};
 ghost use Rattle.abc_file_types.specs.Lists.{chain};
 ghost use Rattle.abc_file_types.specs.Part.{image};
 ghost use Rattle.abc_file_types.specs.Bodies.{bodies, body, body_list, methods_of, IsReadyBody};
-ghost use Rattle.abc_varint.specs.Answers.{Answers};
+ghost use Rattle.abc_varint.specs.Answers.{AnswersPart};
 ghost use Rattle.abc_varint.specs.Reads.{Reads, ReadsPart};
 
 use crate::body::read_body;
@@ -35,7 +35,9 @@ fn read_each_body<S: Source, K: Keeping>(
     count: u32,
 ) -> Result<(Table<Body>, K), ReadError>
     requires fresh { w.old.kept ≡ None }
-    ensures value { ReadsPart S.left S.faults (image (halves K.of_places) (chain count (λ before. body sizes.now (methods_of before)) [])) w.old source.old w.new source.new result }
+    ensures value { ReadsPart S.left S.faults
+        (image (halves K.of_places) (chain count (λ before. body sizes.now (methods_of before)) [])) w.old
+        source.old w.new source.new result }
     ensures places { IfOk result (λ x. KeepPlaces K.of_places x.0 x.1) }
     ensures ready { IfOk result (λ x. All IsReadyBody x.0) }
 {
@@ -60,7 +62,8 @@ fn read_all<S: Source, K: Keeping>(
     source: &mut S,
     sizes: &Sizes,
 ) -> Result<(Table<Body>, K), ReadError>
-    ensures value { ReadsPart S.left S.faults (image (halves K.of_places) (body_list sizes.now)) w.old source.old w.new source.new result }
+    ensures value { ReadsPart S.left S.faults (image (halves K.of_places) (body_list sizes.now)) w.old
+        source.old w.new source.new result }
     ensures places { IfOk result (λ x. KeepPlaces K.of_places x.0 x.1) }
     ensures ready { IfOk result (λ x. All IsReadyBody x.0) }
 {
@@ -75,11 +78,13 @@ pub fn read_bodies_keeping<S: Source, K: Keeping>(
     source: &mut S,
     abc: &mut Abc,
 ) -> Result<K, ReadError>
-    ensures value { ReadsPart S.left S.faults (image (keeping K.of_places) (bodies abc.old)) w.old source.old w.new source.new (with_places result abc.new) }
+    ensures value { ReadsPart S.left S.faults (image (keeping K.of_places) (bodies abc.old)) w.old source.old
+        w.new source.new (with_places result abc.new) }
     ensures places { IfOk result (KeepPlaces K.of_places (abc.new).bodies) }
     ensures ready { OnOk result (All IsReadyBody (abc.new).bodies) }
     ensures err { OnErr result (abc.new ≡ abc.old) }
-    ensures answers { Answers (image (keeping K.of_places) (bodies abc.old)) w.old (S.left source.old) w.new (S.left source.new) (with_places result abc.new) }
+    ensures answers { AnswersPart (image (keeping K.of_places) (bodies abc.old)) w.old (S.left source.old)
+        w.new (S.left source.new) (with_places result abc.new) }
 {
     let _ = w.place();
     let sizes = sizes_of(abc);
@@ -108,11 +113,13 @@ pub fn read_bodies<S: Source>(
     source: &mut S,
     abc: &mut Abc,
 ) -> Result<Places, ReadError>
-    ensures value { ReadsPart S.left S.faults (bodies abc.old) w.old source.old w.new source.new (with_places result abc.new) }
+    ensures value { ReadsPart S.left S.faults (bodies abc.old) w.old source.old w.new source.new
+        (with_places result abc.new) }
     ensures places { IfOk result (ArePlaces (abc.new).bodies) }
     ensures ready { OnOk result (All IsReadyBody (abc.new).bodies) }
     ensures err { OnErr result (abc.new ≡ abc.old) }
-    ensures answers { Answers (bodies abc.old) w.old (S.left source.old) w.new (S.left source.new) (with_places result abc.new) }
+    ensures answers { AnswersPart (bodies abc.old) w.old (S.left source.old) w.new (S.left source.new)
+        (with_places result abc.new) }
 {
     let _place = w.place();
     read_bodies_keeping::<S, Places>(alloc, w, source, abc)

@@ -9,17 +9,17 @@ use Rattle.abc_link_names.specs.Linked.{LinkedFile}
 use Rattle.abc_machine.specs.Machines.{IsOpened, Opened}
 use Rattle.abc_meaning.specs.Meaning.{first_world, too_small}
 use Rattle.abc_meaning.specs.Openings.{setting}
-use Rattle.abc_verify.specs.FileRefusing.{IsRefused, IsRefusedBy}
+use Rattle.abc_verify.specs.FileRefusing.{IsFileRefused, IsFileRefusedBy}
 use Rattle.abc_verify.specs.declared.verified_error.VerifiedError.{VerifiedError}
 use Rattle.abc_verify.specs.declared.verified_error.VerifiedError.TheVariants as errors
-use Rattle.abc_c.specs.Crossing.{limits_of}
+use Rattle.abc_c.specs.Crossing.{limits_of_bounds}
 use Rattle.abc_c.specs.Opening.{IsReadIn, IsUnread}
-use Rattle.abc_c.specs.Outcome.{IsBegun, IsTooSmall}
+use Rattle.abc_c.specs.Outcome.{IsOpenedFor, IsTooSmall}
 use Rattle.abc_c.specs.declared.crossing.Bounds.{Bounds}
 
 -- ---- a session
 
-pub begun_of : (file : List ℕ) (bounds : Bounds) (l : LinkedFile) (limits : Limits) (m : Opened) → limits ≡ limits_of bounds → IsReadIn file l → IsOpened l builtin_formulas limits m → IsBegun file bounds m
+pub begun_of : (file : List ℕ) (bounds : Bounds) (l : LinkedFile) (limits : Limits) (m : Opened) → limits ≡ limits_of_bounds bounds → IsReadIn file l → IsOpened l builtin_formulas limits m → IsOpenedFor file bounds m
 begun_of file bounds l limits m is read opened = record {
   linked = l;
   starts = read.starts;
@@ -27,7 +27,7 @@ begun_of file bounds l limits m is read opened = record {
   opened = subst (λ (x : Limits). IsOpened l builtin_formulas x m) is opened;
 }
 
-pub small_of : (file : List ℕ) (bounds : Bounds) (l : LinkedFile) (limits : Limits) (which : Limit) → limits ≡ limits_of bounds → IsReadIn file l → too_small (first_world (setting l builtin_formulas) limits).heap ≡ Some which → IsTooSmall file bounds
+pub small_of : (file : List ℕ) (bounds : Bounds) (l : LinkedFile) (limits : Limits) (which : Limit) → limits ≡ limits_of_bounds bounds → IsReadIn file l → too_small (first_world (setting l builtin_formulas) limits).heap ≡ Some which → IsTooSmall file bounds
 small_of file bounds l limits which is read small = record {
   linked = l;
   starts = read.starts;
@@ -42,14 +42,14 @@ small_of file bounds l limits which is read small = record {
 never_rose : Rose 0 0 → ⊥
 never_rose rose = omega arith
 
-pub unread_by : (file : List ℕ) (e : VerifiedError) → IsRefusedBy file e → (e ≡ errors.ReadFault → Rose 0 0) → IsUnread file e
+pub unread_by : (file : List ℕ) (e : VerifiedError) → IsFileRefusedBy file e → (e ≡ errors.ReadFault → Rose 0 0) → IsUnread file e
 unread_by file (errors.Refused place reason) refused rose = refused
 unread_by file (errors.Link rule i) refused rose = refused
 unread_by file (errors.Verify m offset rule) refused rose = refused
 unread_by file errors.ReadFault refused rose = absurd (never_rose (rose refl))
 unread_by file errors.NoMemory refused rose = tt
 
-pub refused_by : (file : List ℕ) (e : VerifiedError) → e ≢ errors.NoMemory → IsUnread file e → IsRefused file e
+pub refused_by : (file : List ℕ) (e : VerifiedError) → e ≢ errors.NoMemory → IsUnread file e → IsFileRefused file e
 refused_by file (errors.Refused place reason) some unread = unread
 refused_by file (errors.Link rule i) some unread = unread
 refused_by file (errors.Verify m offset rule) some unread = unread

@@ -17,9 +17,9 @@ use Rattle.abc_meaning.specs.Exports.{export}
 use Rattle.abc_meaning.specs.Openings.{setting}
 use Rattle.abc_session.specs.Sessions.{AnswersIn}
 use Rattle.abc_session.specs.declared.replies.SessionReply.{SessionReply}
-use Rattle.abc_c.specs.Answered.{IsAnswered, IsDone, Tells, TellsText, TellsValue, meant_call}
+use Rattle.abc_c.specs.Answered.{IsAnswered, IsDone, Tells, PutsText, PutsValue, meant_call}
 use Rattle.abc_c.specs.Answered as told
-use Rattle.abc_c.specs.Crossing.{CanBeMade, name_of, numbers_of, text_at, without}
+use Rattle.abc_c.specs.Crossing.{CanBeMade, name_of_call, numbers_of, text_at, without}
 use Rattle.abc_c.specs.declared.crossing.Answer.{Answer}
 use Rattle.abc_c.specs.declared.crossing.Call.{Call}
 
@@ -28,15 +28,15 @@ use Rattle.abc_c.specs.declared.crossing.Call.{Call}
 known_is : (xs ys : List ℕ) → Some xs ≡ Some ys → xs ≡ ys
 known_is xs ys e = cc
 
-pub told_whole : (text before now : List ℕ) (a : Answer) → a ≡ text_at (length before) (length text) → Some now ≡ append_known (Some before) text → TellsText text before now a
-told_whole text before now a is wrote = subst (TellsText text before now) (sym is) (told.whole (known_is now (before ++ text) wrote))
+pub told_whole : (text before now : List ℕ) (a : Answer) → a ≡ text_at (length before) (length text) → Some now ≡ append_known (Some before) text → PutsText text before now a
+told_whole text before now a is wrote = subst (PutsText text before now) (sym is) (told.whole (known_is now (before ++ text) wrote))
 
-pub told_front : (text before now : List ℕ) (a : Answer) → a ≡ without status.WriteFault → GrowsByFront (Some before) (Some now) text → TellsText text before now a
-told_front text before now a is front = subst (TellsText text before now) (sym is) (told.cut front)
+pub told_front : (text before now : List ℕ) (a : Answer) → a ≡ without status.WriteFault → GrowsByFront (Some before) (Some now) text → PutsText text before now a
+told_front text before now a is front = subst (PutsText text before now) (sym is) (told.cut front)
 
 -- the text of a span, which a session tells
-pub told_span : (m : Opened) (s : Span) (text before now : List ℕ) (a : Answer) → text ≡ told_text m s → TellsText text before now a → TellsValue m (values.Text s) before now a
-told_span m s text before now a is tells = subst (λ (bs : List ℕ). TellsText bs before now a) is tells
+pub told_span : (m : Opened) (s : Span) (text before now : List ℕ) (a : Answer) → text ≡ told_text m s → PutsText text before now a → PutsValue m (values.Text s) before now a
+told_span m s text before now a is tells = subst (λ (bs : List ℕ). PutsText bs before now a) is tells
 
 -- however writing went, a front of the piece was written
 pub some_front : {T E : Type 0} (r : Result T E) (before now : Option (List ℕ)) (piece : List ℕ) → MatchResult r (λ _. now ≡ append_known before piece) (λ _. GrowsByFront before now piece) → GrowsByFront before now piece
@@ -61,6 +61,6 @@ done_as old new method c args before mid now reply a is answered tells = record 
 pub unmade_as : (names : List ℕ) (m : Opened) (c : Call) (written : List ℕ) (a : Answer) → a ≡ without status.Usage → ¬ CanBeMade names c → IsAnswered names m m c written written a
 unmade_as names m c written a is not = subst (IsAnswered names m m c written written) (sym is) (told.unmade not (record { same = refl; output = refl }))
 
-pub unknown_as : (names : List ℕ) (m : Opened) (c : Call) (written : List ℕ) (a : Answer) → a ≡ without status.Refused → CanBeMade names c → export (setting m.linked builtin_formulas) (name_of names c) ≡ None
+pub unknown_as : (names : List ℕ) (m : Opened) (c : Call) (written : List ℕ) (a : Answer) → a ≡ without status.Refused → CanBeMade names c → export (setting m.linked builtin_formulas) (name_of_call names c) ≡ None
     → IsAnswered names m m c written written a
 unknown_as names m c written a is can none = subst (IsAnswered names m m c written written) (sym is) (told.unknown can none (record { same = refl; output = refl }))

@@ -7,10 +7,10 @@ use Rattle.abc_base.specs.declared.status.Status.TheVariants as status
 use Rattle.abc_machine.specs.Machines.{Opened}
 use Rattle.abc_machine.specs.declared.ends.End.{End}
 use Rattle.abc_machine.specs.declared.ends.End.TheVariants.{Done}
-use Rattle.abc_verify.specs.FileRefusing.{IsRefused}
+use Rattle.abc_verify.specs.FileRefusing.{IsFileRefused}
 use Rattle.abc_verify.specs.declared.verified_error.VerifiedError.{VerifiedError}
 use Rattle.abc_c.specs.Answered.{AreAnswered, end_status}
-use Rattle.abc_c.specs.Outcome.{Comes, IsBegun, IsHanded, IsStarted, IsTooSmall, IsUsed, Use, reason_of, refusal_of, unrefused}
+use Rattle.abc_c.specs.Outcome.{ComesOfUse, IsOpenedFor, IsHanded, IsStarted, IsTooSmall, IsUsed, Use, reason_of, refusal_of, no_refusal}
 use Rattle.abc_c.specs.Outcome as came
 use Rattle.abc_c.specs.declared.crossing.Answer.{Answer}
 use Rattle.abc_c.specs.declared.crossing.Call.{Call}
@@ -19,7 +19,7 @@ use Rattle.abc_c.specs.declared.crossing.Refusal.{Refusal}
 -- ---- the run of the script, and the calls after it
 
 module _ (u : Use) (fuel : ℕ) (names : List ℕ) (calls : List Call) (opened started : Opened) (before wrote : List ℕ) (end : End) (s : Status)
-    (handed : IsHanded u fuel names calls) (begun : IsBegun u.file u.bounds opened) (fresh : before ≡ []) (starts : IsStarted opened started fuel end before wrote) (is : s ≡ end_status end) where
+    (handed : IsHanded u fuel names calls) (begun : IsOpenedFor u.file u.bounds opened) (fresh : before ≡ []) (starts : IsStarted opened started fuel end before wrote) (is : s ≡ end_status end) where
   started_so : IsStarted opened started u.bounds.fuel end [] wrote
   started_so = subst (λ (n : ℕ). IsStarted opened started n end [] wrote) (sym handed.fuel_is) (subst (λ (x : List ℕ). IsStarted opened started fuel end x wrote) fresh starts)
 
@@ -59,20 +59,20 @@ module _ (u : Use) (fuel : ℕ) (names : List ℕ) (calls : List Call) (opened s
 -- ---- what came, by its parts
 
 module _ (u : Use) (answers : List Answer) (s : Status) (r : Refusal) (answered : ℕ) (written : List ℕ) where
-  by_parts : (x : Status) (y : Refusal) (n : ℕ) (bytes : List ℕ) → s ≡ x → r ≡ y → answered ≡ n → written ≡ bytes → Comes u answers x y n bytes → Comes u answers s r answered written
+  by_parts : (x : Status) (y : Refusal) (n : ℕ) (bytes : List ℕ) → s ≡ x → r ≡ y → answered ≡ n → written ≡ bytes → ComesOfUse u answers x y n bytes → ComesOfUse u answers s r answered written
   by_parts x y n bytes a b c d comes =
-      subst (λ (z : Status). Comes u answers z r answered written) (sym a)
-      (subst (λ (z : Refusal). Comes u answers x z answered written) (sym b)
-      (subst (λ (z : ℕ). Comes u answers x y z written) (sym c) (subst (λ (z : List ℕ). Comes u answers x y n z) (sym d) comes)))
+      subst (λ (z : Status). ComesOfUse u answers z r answered written) (sym a)
+      (subst (λ (z : Refusal). ComesOfUse u answers x z answered written) (sym b)
+      (subst (λ (z : ℕ). ComesOfUse u answers x y z written) (sym c) (subst (λ (z : List ℕ). ComesOfUse u answers x y n z) (sym d) comes)))
 
-  pub came_used : r ≡ unrefused → IsUsed u answers s answered written → Comes u answers s r answered written
-  came_used b used = by_parts s unrefused answered written refl b refl refl (came.used s answered written used)
+  pub came_used : r ≡ no_refusal → IsUsed u answers s answered written → ComesOfUse u answers s r answered written
+  came_used b used = by_parts s no_refusal answered written refl b refl refl (came.used s answered written used)
 
-  pub came_refused : (e : VerifiedError) → s ≡ status.Refused → r ≡ refusal_of e → answered ≡ 0 → IsRefused u.file e → GrowsByFront (Some []) (Some written) (reason_of e) → Comes u answers s r answered written
+  pub came_refused : (e : VerifiedError) → s ≡ status.Refused → r ≡ refusal_of e → answered ≡ 0 → IsFileRefused u.file e → GrowsByFront (Some []) (Some written) (reason_of e) → ComesOfUse u answers s r answered written
   came_refused e a b c refused front = by_parts status.Refused (refusal_of e) 0 written a b c refl (came.refused e written refused front)
 
-  pub came_limited : s ≡ status.Limit → r ≡ unrefused → answered ≡ 0 → written ≡ [] → IsTooSmall u.file u.bounds → Comes u answers s r answered written
-  came_limited a b c d small = by_parts status.Limit unrefused 0 [] a b c d (came.limited small)
+  pub came_limited : s ≡ status.Limit → r ≡ no_refusal → answered ≡ 0 → written ≡ [] → IsTooSmall u.file u.bounds → ComesOfUse u answers s r answered written
+  came_limited a b c d small = by_parts status.Limit no_refusal 0 [] a b c d (came.limited small)
 
-  pub came_nowhere : s ≡ status.NoMemory → r ≡ unrefused → answered ≡ 0 → written ≡ [] → Comes u answers s r answered written
-  came_nowhere a b c d = by_parts status.NoMemory unrefused 0 [] a b c d came.no_memory
+  pub came_nowhere : s ≡ status.NoMemory → r ≡ no_refusal → answered ≡ 0 → written ≡ [] → ComesOfUse u answers s r answered written
+  came_nowhere a b c d = by_parts status.NoMemory no_refusal 0 [] a b c d came.no_memory

@@ -17,7 +17,7 @@ use Rattle.abc_meaning.specs.Openings.{setting}
 use Rattle.abc_session.specs.Sessions.{AnswersIn}
 use Rattle.abc_session.specs.declared.replies.SessionReply.{SessionReply}
 use Rattle.abc_session.specs.declared.replies.SessionReply.TheVariants as answers
-use Rattle.abc_c.specs.Crossing.{CanBeMade, name_of, numbers_of, of_value, text_at, without}
+use Rattle.abc_c.specs.Crossing.{CanBeMade, name_of_call, numbers_of, of_value, text_at, without}
 use Rattle.abc_c.specs.declared.crossing.Answer.{Answer}
 use Rattle.abc_c.specs.declared.crossing.Call.{Call}
 use Rattle.abc_c.specs.declared.crossing.Kind.{Kind}
@@ -37,27 +37,27 @@ end_status ends.WriteFault = status.WriteFault
 -- ---- a value: from what the output had to what it has then
 
 -- a text is written behind it, or the front of it where there is no room
-pub data TellsText (text before now : List ℕ) : Answer → Type 0 where
-  whole : now ≡ before ++ text → TellsText text before now (text_at (length before) (length text))
-  cut : GrowsByFront (Some before) (Some now) text → TellsText text before now (without status.WriteFault)
+pub data PutsText (text before now : List ℕ) : Answer → Type 0 where
+  whole : now ≡ before ++ text → PutsText text before now (text_at (length before) (length text))
+  cut : GrowsByFront (Some before) (Some now) text → PutsText text before now (without status.WriteFault)
 
 -- nothing is written
 pub record TellsAlone (told : Answer) (before now : List ℕ) (a : Answer) : Type 0 where
   pub is : a ≡ told
   pub same : now ≡ before
 
-abbrev pub TellsValue : Opened → PlainValue → (before now : List ℕ) → Answer → Type 0
-TellsValue m values.Undefined before now a = TellsAlone (of_value kinds.Undefined (pos 0)) before now a
-TellsValue m values.Null before now a = TellsAlone (of_value kinds.Null (pos 0)) before now a
-TellsValue m (values.Bool false) before now a = TellsAlone (of_value kinds.Bool (pos 0)) before now a
-TellsValue m (values.Bool true) before now a = TellsAlone (of_value kinds.Bool (pos 1)) before now a
-TellsValue m (values.Num n) before now a = TellsAlone (of_value kinds.Num n) before now a
-TellsValue m (values.Text s) before now a = TellsText (told_text m s) before now a
-TellsValue m values.Other before now a = TellsAlone (of_value kinds.Other (pos 0)) before now a
+abbrev pub PutsValue : Opened → PlainValue → (before now : List ℕ) → Answer → Type 0
+PutsValue m values.Undefined before now a = TellsAlone (of_value kinds.Undefined (pos 0)) before now a
+PutsValue m values.Null before now a = TellsAlone (of_value kinds.Null (pos 0)) before now a
+PutsValue m (values.Bool false) before now a = TellsAlone (of_value kinds.Bool (pos 0)) before now a
+PutsValue m (values.Bool true) before now a = TellsAlone (of_value kinds.Bool (pos 1)) before now a
+PutsValue m (values.Num n) before now a = TellsAlone (of_value kinds.Num n) before now a
+PutsValue m (values.Text s) before now a = PutsText (told_text m s) before now a
+PutsValue m values.Other before now a = TellsAlone (of_value kinds.Other (pos 0)) before now a
 
 -- what a session replied is told: its value, or a status
 abbrev pub Tells : Opened → SessionReply → (before now : List ℕ) → Answer → Type 0
-Tells m (answers.Reply (replies.Value value)) before now a = TellsValue m value before now a
+Tells m (answers.Reply (replies.Value value)) before now a = PutsValue m value before now a
 Tells m (answers.Reply (replies.Uncaught thrown)) before now a = TellsAlone (without status.Uncaught) before now a
 Tells m (answers.Reply (replies.Profile method index fault)) before now a = TellsAlone (without status.Profile) before now a
 Tells m (answers.Reply replies.FuelSpent) before now a = TellsAlone (without status.Fuel) before now a
@@ -86,8 +86,8 @@ pub record Rests (old new : Opened) (before now : List ℕ) : Type 0 where
 -- a call that can't be made, one of a name that the file doesn't export, and one that is done
 pub data IsAnswered (names : List ℕ) (old new : Opened) (c : Call) (before now : List ℕ) : Answer → Type 0 where
   unmade : ¬ CanBeMade names c → Rests old new before now → IsAnswered names old new c before now (without status.Usage)
-  unknown : CanBeMade names c → export (setting old.linked builtin_formulas) (name_of names c) ≡ None → Rests old new before now → IsAnswered names old new c before now (without status.Refused)
-  made : (method : ℕ) (a : Answer) → CanBeMade names c → export (setting old.linked builtin_formulas) (name_of names c) ≡ Some method → IsDone old new method c before now a → IsAnswered names old new c before now a
+  unknown : CanBeMade names c → export (setting old.linked builtin_formulas) (name_of_call names c) ≡ None → Rests old new before now → IsAnswered names old new c before now (without status.Refused)
+  made : (method : ℕ) (a : Answer) → CanBeMade names c → export (setting old.linked builtin_formulas) (name_of_call names c) ≡ Some method → IsDone old new method c before now a → IsAnswered names old new c before now a
 
 -- calls one after the other, each on the session that the one before left
 pub data AreAnswered (names : List ℕ) : Opened → List Call → List Answer → (before : List ℕ) → (last : Opened) → (now : List ℕ) → Type 0 where

@@ -12,8 +12,8 @@ use Rattle.abc_c.specs.declared.crossing.Kind.{Kind}
 use Rattle.abc_c.specs.declared.crossing.Kind.TheVariants as kinds
 
 -- the limits among the bounds
-abbrev pub limits_of : Bounds → Limits
-limits_of b = record { objects = b.objects; cells = b.cells; text = b.text; frames = b.frames; stack = b.stack }
+abbrev pub limits_of_bounds : Bounds → Limits
+limits_of_bounds b = record { objects = b.objects; cells = b.cells; text = b.text; frames = b.frames; stack = b.stack }
 
 -- ---- a call
 
@@ -31,8 +31,8 @@ pub record CanBeMade (names : List ℕ) (c : Call) : Type 0 where
   pub numbers : HasNumbers c
 
 -- the name of the function that is called, within the names
-abbrev pub name_of : List ℕ → Call → List ℕ
-name_of names c = take c.name_length (drop c.name_start names)
+abbrev pub name_of_call : List ℕ → Call → List ℕ
+name_of_call names c = take c.name_length (drop c.name_start names)
 
 -- the numbers that are given to a call, at most four
 abbrev pub numbers_of : Call → List ℤ

@@ -1,7 +1,7 @@
 -- How code opens a file, and why it doesn't.
 use Rattle.std.specs.Prelude.{◌≡◌, ℕ, List}
 use Rattle.abc_link_names.specs.Linked.{LinkedFile}
-use Rattle.abc_verify.specs.FileRefusing.{IsRefused}
+use Rattle.abc_verify.specs.FileRefusing.{IsFileRefused}
 use Rattle.abc_verify.specs.Verified.{IsReadVerified}
 use Rattle.abc_verify.specs.declared.verified_error.VerifiedError.{VerifiedError}
 use Rattle.abc_verify.specs.declared.verified_error.VerifiedError.TheVariants as errors
@@ -19,12 +19,12 @@ pub record IsReadIn (file : List ℕ) (l : LinkedFile) : Type 0 where
 abbrev pub IsUnread : List ℕ → VerifiedError → Type 0
 IsUnread file errors.NoMemory = Unit {0}
 IsUnread file errors.ReadFault = ⊥
-IsUnread file (errors.Refused place reason) = IsRefused file (errors.Refused place reason)
-IsUnread file (errors.Link rule i) = IsRefused file (errors.Link rule i)
-IsUnread file (errors.Verify m offset rule) = IsRefused file (errors.Verify m offset rule)
+IsUnread file (errors.Refused place reason) = IsFileRefused file (errors.Refused place reason)
+IsUnread file (errors.Link rule i) = IsFileRefused file (errors.Link rule i)
+IsUnread file (errors.Verify m offset rule) = IsFileRefused file (errors.Verify m offset rule)
 
 -- why a file is not opened: it is refused, what every run begins with passes a limit, or there is no memory
-abbrev pub IsUnopened : List ℕ → Bounds → Unopened → Type 0
-IsUnopened file bounds (unopened.Refused e) = IsRefused file e
-IsUnopened file bounds unopened.TooSmall = IsTooSmall file bounds
-IsUnopened file bounds unopened.NoMemory = Unit {0}
+abbrev pub IsUnopenedFor : List ℕ → Bounds → Unopened → Type 0
+IsUnopenedFor file bounds (unopened.Refused e) = IsFileRefused file e
+IsUnopenedFor file bounds unopened.TooSmall = IsTooSmall file bounds
+IsUnopenedFor file bounds unopened.NoMemory = Unit {0}

@@ -6,7 +6,7 @@ use Rattle.abc_base.specs.Sinks.{GrowsByFront}
 use Rattle.abc_base.specs.declared.status.Status.{Status}
 use Rattle.abc_base.specs.declared.status.Status.TheVariants as status
 use Rattle.abc_file_types.specs.Reasons.{reason_name}
-use Rattle.abc_link_names.specs.Items.{rule_name as link_rule_name}
+use Rattle.abc_link_names.specs.Items.{link_rule_name}
 use Rattle.abc_link_names.specs.declared.items.ItemKind.{ItemKind}
 use Rattle.abc_link_names.specs.declared.items.ItemKind.TheVariants as items
 use Rattle.abc_link_names.specs.Linked.{LinkedFile}
@@ -18,13 +18,13 @@ use Rattle.abc_machine.specs.declared.ends.End.TheVariants.{Done}
 use Rattle.abc_heap_store.specs.declared.records.Limit.{Limit}
 use Rattle.abc_meaning.specs.Meaning.{first_world, too_small}
 use Rattle.abc_meaning.specs.Openings.{setting}
-use Rattle.abc_verify.specs.FileRefusing.{IsRefused}
+use Rattle.abc_verify.specs.FileRefusing.{IsFileRefused}
 use Rattle.abc_verify.specs.Verified.{IsReadVerified}
 use Rattle.abc_verify.specs.declared.verified_error.VerifiedError.{VerifiedError}
 use Rattle.abc_verify.specs.declared.verified_error.VerifiedError.TheVariants as errors
 use Rattle.abc_verify_typing.specs.RuleNames.{rule_name}
 use Rattle.abc_c.specs.Answered.{AreAnswered, end_status}
-use Rattle.abc_c.specs.Crossing.{limits_of}
+use Rattle.abc_c.specs.Crossing.{limits_of_bounds}
 use Rattle.abc_c.specs.declared.crossing.Answer.{Answer}
 use Rattle.abc_c.specs.declared.crossing.Bounds.{Bounds}
 use Rattle.abc_c.specs.declared.crossing.Call.{Call}
@@ -41,16 +41,16 @@ item_code items.Script = 3
 item_code items.Body = 4
 
 -- what is handed back for a refusal where there was none
-abbrev pub unrefused : Refusal
-unrefused = record { by = 0; place = 0; offset = 0 }
+abbrev pub no_refusal : Refusal
+no_refusal = record { by = 0; place = 0; offset = 0 }
 
 -- who refused a file, and where
 abbrev pub refusal_of : VerifiedError → Refusal
 refusal_of (errors.Refused place reason) = record { by = 1; place = place; offset = 0 }
 refusal_of (errors.Link rule i) = record { by = 2; place = i.index; offset = item_code i.kind }
 refusal_of (errors.Verify m offset rule) = record { by = 3; place = m; offset = offset }
-refusal_of errors.ReadFault = unrefused
-refusal_of errors.NoMemory = unrefused
+refusal_of errors.ReadFault = no_refusal
+refusal_of errors.NoMemory = no_refusal
 
 -- and why: the name of a reason or of a rule
 abbrev pub reason_of : VerifiedError → List ℕ
@@ -63,11 +63,11 @@ reason_of errors.NoMemory = []
 -- ---- opening
 
 -- a verified file is opened beside the built-in host
-pub record IsBegun (file : List ℕ) (bounds : Bounds) (m : Opened) : Type 0 where
+pub record IsOpenedFor (file : List ℕ) (bounds : Bounds) (m : Opened) : Type 0 where
   pub linked : LinkedFile
   pub starts : List (List ℕ)
   pub verified : IsReadVerified linked starts file
-  pub opened : IsOpened linked builtin_formulas (limits_of bounds) m
+  pub opened : IsOpened linked builtin_formulas (limits_of_bounds bounds) m
 
 -- it is verified, and what every run begins with passes a limit
 pub record IsTooSmall (file : List ℕ) (bounds : Bounds) : Type 0 where
@@ -75,7 +75,7 @@ pub record IsTooSmall (file : List ℕ) (bounds : Bounds) : Type 0 where
   pub starts : List (List ℕ)
   pub verified : IsReadVerified linked starts file
   pub which : Limit
-  pub small : too_small (first_world (setting linked builtin_formulas) (limits_of bounds)).heap ≡ Some which
+  pub small : too_small (first_world (setting linked builtin_formulas) (limits_of_bounds bounds)).heap ≡ Some which
 
 -- ---- the run of the last script
 
@@ -107,7 +107,7 @@ pub record IsHanded (u : Use) (fuel : ℕ) (names : List ℕ) (calls : List Call
 -- the script was run; where that was done, calls were made, as far as there is room for answers
 pub record IsUsed (u : Use) (answers : List Answer) (s : Status) (answered : ℕ) (written : List ℕ) : Type 0 where
   pub opened : Opened
-  pub begun : IsBegun u.file u.bounds opened
+  pub begun : IsOpenedFor u.file u.bounds opened
   pub end : End
   pub status : s ≡ end_status end
   pub started : Opened
@@ -118,17 +118,17 @@ pub record IsUsed (u : Use) (answers : List Answer) (s : Status) (answered : ℕ
   pub none : end ≢ Done → (answered ≡ 0) × (written ≡ wrote)
 
 -- what came: a status, where the file was refused, how many calls were answered, and what was written
-pub data Comes (u : Use) (answers : List Answer) : Status → Refusal → (answered : ℕ) → (written : List ℕ) → Type 0 where
-  refused : (e : VerifiedError) (written : List ℕ) → IsRefused u.file e → GrowsByFront (Some []) (Some written) (reason_of e) → Comes u answers status.Refused (refusal_of e) 0 written
-  limited : IsTooSmall u.file u.bounds → Comes u answers status.Limit unrefused 0 []
-  no_memory : Comes u answers status.NoMemory unrefused 0 []
-  used : (s : Status) (answered : ℕ) (written : List ℕ) → IsUsed u answers s answered written → Comes u answers s unrefused answered written
+pub data ComesOfUse (u : Use) (answers : List Answer) : Status → Refusal → (answered : ℕ) → (written : List ℕ) → Type 0 where
+  refused : (e : VerifiedError) (written : List ℕ) → IsFileRefused u.file e → GrowsByFront (Some []) (Some written) (reason_of e) → ComesOfUse u answers status.Refused (refusal_of e) 0 written
+  limited : IsTooSmall u.file u.bounds → ComesOfUse u answers status.Limit no_refusal 0 []
+  no_memory : ComesOfUse u answers status.NoMemory no_refusal 0 []
+  used : (s : Status) (answered : ℕ) (written : List ℕ) → IsUsed u answers s answered written → ComesOfUse u answers s no_refusal answered written
 
 -- so much of what was written stands in front of the output as there is room for
 pub record HasOutcome (u : Use) (answers : List Answer) (before now : List ℕ) (o : Outcome) : Type 0 where
   pub status : Status
   pub code : o.status ≡ status_code status
   pub written : List ℕ
-  pub comes : Comes u answers status o.refusal o.answered written
+  pub comes : ComesOfUse u answers status o.refusal o.answered written
   pub many : o.written ≡ min (length written) (length before)
   pub output : now ≡ take o.written written ++ drop o.written before

@@ -14,7 +14,8 @@ pub fn answer_all(
     out: &mut MemSink,
 ) -> usize
     ensures count { result ≡ min (length calls.now) (length answers.old) }
-    ensures answers { AreAnswered names.now kept.old.session (take result calls.now) (take result answers.new) out.old.taken kept.new.session out.new.taken }
+    ensures answers { AreAnswered names.now kept.old.session (take result calls.now) (take result answers.new)
+        out.old.taken kept.new.session out.new.taken }
     ensures room { length answers.new ≡ length answers.old }
 {
     let count = calls.len().min(answers.len());

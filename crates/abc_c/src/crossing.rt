@@ -1,9 +1,9 @@
 //! What crosses to C and back.
 ghost use Rattle.std.specs.Prelude.{◌≡◌, ◌↔◌, IsTrue};
-ghost use Rattle.abc_base.specs.Hosts.{arguments};
+ghost use Rattle.abc_base.specs.Hosts.{plain_arguments};
 ghost use Rattle.abc_base.specs.Names.{status_code};
 ghost use Rattle.abc_base.specs.Ranges.{IsNumber};
-ghost use Rattle.abc_c.specs.Crossing.{CanBeMade, HasNumbers, kind_code, limits_of, name_of, numbers_of, of_value, text_at, without as none_of};
+ghost use Rattle.abc_c.specs.Crossing.{CanBeMade, HasNumbers, kind_code, limits_of_bounds, name_of_call, numbers_of, of_value, text_at, without as none_of};
 
 use abc_base::{Plain, Status};
 use abc_heap_store::Limits;
@@ -23,7 +23,7 @@ pub struct Bounds {
 impl Bounds {
     /// The limits of a session.
     pub fn limits(&self) -> Limits
-        ensures { result ≡ limits_of self.now }
+        ensures { result ≡ limits_of_bounds self.now }
     {
         Limits {
             objects: self.objects,
@@ -84,7 +84,7 @@ impl Call {
     /// The name of the function.
     pub fn name<'a>(&self, names: &'a [u8]) -> &'a [u8]
         requires { CanBeMade names.now self.now }
-        ensures { result.now ≡ name_of names.now self.now }
+        ensures { result.now ≡ name_of_call names.now self.now }
     {
         let start = self.name_start as usize;
         &names[start..start + self.name_length as usize]
@@ -93,7 +93,7 @@ impl Call {
     /// The numbers that it is given.
     pub fn numbers(&self, names: &[u8]) -> Plain
         requires { CanBeMade names.now self.now }
-        ensures { arguments result ≡ numbers_of self.now }
+        ensures { plain_arguments result ≡ numbers_of self.now }
     {
         let _names = names;
         Plain {

@@ -1,15 +1,15 @@
 ghost use Rattle.std.specs.Prelude.{◌≡◌, List, MatchResult, None, Some};
-ghost use Rattle.abc_base.specs.Hosts.{arguments, builtin_formulas};
+ghost use Rattle.abc_base.specs.Hosts.{plain_arguments, builtin_formulas};
 ghost use Rattle.abc_heap_values.specs.declared.values.Span.{Span};
 ghost use Rattle.abc_machine.specs.Texts.{CanTell, told_text};
 ghost use Rattle.abc_meaning.specs.Exports.{IsScriptMethod, export as export_of};
-ghost use Rattle.abc_meaning.specs.Openings.{IsRefused, setting};
+ghost use Rattle.abc_meaning.specs.Openings.{IsOpeningRefused, setting};
 ghost use Rattle.abc_session.specs.Beside.{IsBeside};
-ghost use Rattle.abc_session.specs.Told.{HasText};
-ghost use Rattle.abc_c.specs.Answered.{IsAnswered, IsDone, Tells, TellsText, TellsValue, end_status};
-ghost use Rattle.abc_c.specs.Crossing.{CanBeMade, limits_of, name_of};
-ghost use Rattle.abc_c.specs.Opening.{IsReadIn, IsUnopened};
-ghost use Rattle.abc_c.specs.Outcome.{IsBegun, IsStarted};
+ghost use Rattle.abc_session.specs.Told.{HasToldText};
+ghost use Rattle.abc_c.specs.Answered.{IsAnswered, IsDone, Tells, PutsText, PutsValue, end_status};
+ghost use Rattle.abc_c.specs.Crossing.{CanBeMade, limits_of_bounds, name_of_call};
+ghost use Rattle.abc_c.specs.Opening.{IsReadIn, IsUnopenedFor};
+ghost use Rattle.abc_c.specs.Outcome.{IsOpenedFor, IsStarted};
 
 use crate::crossing::{Answer, Bounds, Call, Kind};
 use crate::opening::Unopened;
@@ -43,7 +43,7 @@ pub fn status_of_end(end: End) -> Status
 
 /// Writes a text to the output, and tells where it stands there.
 fn tell_text(bytes: &[u8], out: &mut MemSink) -> Answer
-    ensures { TellsText bytes.now out.old.taken out.new.taken result }
+    ensures { PutsText bytes.now out.old.taken out.new.taken result }
 {
     let start = out.written().len();
     match write_all(out, bytes) {
@@ -54,8 +54,8 @@ fn tell_text(bytes: &[u8], out: &mut MemSink) -> Answer
 
 /// The answer that gives a value.
 fn tell_value(session: &Session, value: PlainValue, out: &mut MemSink) -> Answer
-    requires { HasText session.now value }
-    ensures { TellsValue session.now value out.old.taken out.new.taken result }
+    requires { HasToldText session.now value }
+    ensures { PutsValue session.now value out.old.taken out.new.taken result }
 {
     match value {
         PlainValue::Undefined => Answer::of(Kind::Undefined, 0),
@@ -70,7 +70,8 @@ fn tell_value(session: &Session, value: PlainValue, out: &mut MemSink) -> Answer
 
 /// The answer of a reply.
 fn tell(session: &Session, reply: SessionReply, out: &mut MemSink) -> Answer
-    requires { (s : Span) → reply ≡ SessionReply.Reply (Reply.Value (PlainValue.Text s)) → CanTell session.now s }
+    requires { (s : Span) → reply ≡ SessionReply.Reply (Reply.Value (PlainValue.Text s))
+        → CanTell session.now s }
     ensures { Tells session.now reply out.old.taken out.new.taken result }
 {
     match reply {
@@ -90,7 +91,8 @@ impl Kept {
     pub fn open(alloc: Global, verified: Verified, bounds: &Bounds) -> Result<Kept, Unopened>
         ghost file: { List ℕ }
         requires { IsReadIn file verified }
-        ensures { MatchResult result (λ kept. IsBegun file bounds.now kept.session) (IsUnopened file bounds.now) }
+        ensures { MatchResult result (λ kept. IsOpenedFor file bounds.now kept.session)
+            (IsUnopenedFor file bounds.now) }
     {
         sessions_stay_beside();
         match Session::open(alloc, verified, &bounds.limits(), &BuiltinHost) {
@@ -113,7 +115,8 @@ impl Kept {
     fn call(&mut self, method: u32, names: &[u8], call: &Call, out: &mut MemSink) -> Answer
         requires made { CanBeMade names.now call.now }
         requires method { IsScriptMethod (setting (self.old.session).linked builtin_formulas) method }
-        ensures { IsDone self.old.session self.new.session method call.now out.old.taken out.new.taken result }
+        ensures { IsDone self.old.session self.new.session method call.now out.old.taken out.new.taken
+            result }
     {
         sessions_stay_beside();
         let numbers = call.numbers(names);
@@ -125,7 +128,8 @@ impl Kept {
 
     /// Makes a call, where its name and its numbers are as they may be, and the file exports that name.
     pub fn answer(&mut self, names: &[u8], call: &Call, out: &mut MemSink) -> Answer
-        ensures { IsAnswered names.now self.old.session self.new.session call.now out.old.taken out.new.taken result }
+        ensures { IsAnswered names.now self.old.session self.new.session call.now out.old.taken out.new.taken
+            result }
     {
         if !call.can_be_made(names) {
             return Answer::without(Status::Usage);

@@ -9,7 +9,7 @@ mod opening;
 
 ghost use Rattle.std.specs.Prelude.{◌≡◌, [], length, Some};
 ghost use Rattle.abc_base.specs.Sinks.{GrowsByFront};
-ghost use Rattle.abc_c.specs.Outcome.{Comes, HasOutcome, IsBegun, IsHanded, IsUsed, Use, reason_of, refusal_of as refusal_in, unrefused as none_refused, use_of};
+ghost use Rattle.abc_c.specs.Outcome.{ComesOfUse, HasOutcome, IsOpenedFor, IsHanded, IsUsed, Use, reason_of, refusal_of as refusal_in, no_refusal as none_refused, use_of};
 
 use crate::answers::{answer_all, copy_out};
 use crate::crossing::{Answer, Bounds, Call, Outcome, Refusal};
@@ -54,7 +54,7 @@ fn run(
     out: &mut MemSink,
 ) -> Came
     ghost u: { Use }
-    requires begun { IsBegun u.file u.bounds kept.old.session }
+    requires begun { IsOpenedFor u.file u.bounds kept.old.session }
     requires handed { IsHanded u fuel names.now calls.now }
     requires fresh { (out.old).taken ≡ [] }
     ensures used { IsUsed u answers.new result.status result.answered (out.new).taken }
@@ -75,7 +75,8 @@ fn run(
 /// A file is refused: the name of the reason is written.
 fn refuse(e: &VerifiedError, out: &mut MemSink) -> Came
     requires { (out.old).taken ≡ [] }
-    ensures came { (result.status ≡ Status.Refused) × (result.refusal ≡ refusal_in e.now) × (result.answered ≡ 0) }
+    ensures came { (result.status ≡ Status.Refused) × (result.refusal ≡ refusal_in e.now)
+        × (result.answered ≡ 0) }
     ensures front { GrowsByFront (Some []) (Some (out.new).taken) (reason_of e.now) }
 {
     let _ = write_all(out, reason_for(e));
@@ -97,7 +98,8 @@ fn open_and_run(
     out: &mut MemSink,
 ) -> Came
     requires { (out.old).taken ≡ [] }
-    ensures came { Comes (use_of file.now bounds.now names.now calls.now) answers.new result.status result.refusal result.answered (out.new).taken }
+    ensures came { ComesOfUse (use_of file.now bounds.now names.now calls.now) answers.new result.status
+        result.refusal result.answered (out.new).taken }
     ensures room { length answers.new ≡ length answers.old }
 {
     match open(alloc, file, bounds) {

@@ -1,6 +1,6 @@
 ghost use Rattle.std.specs.Prelude.{◌≡◌, MatchResult};
-ghost use Rattle.abc_c.specs.Opening.{IsReadIn, IsUnopened, IsUnread};
-ghost use Rattle.abc_c.specs.Outcome.{IsBegun, item_code, reason_of, refusal_of as refusal_in, unrefused as none_refused};
+ghost use Rattle.abc_c.specs.Opening.{IsReadIn, IsUnopenedFor, IsUnread};
+ghost use Rattle.abc_c.specs.Outcome.{IsOpenedFor, item_code, reason_of, refusal_of as refusal_in, no_refusal as none_refused};
 
 use crate::crossing::{Bounds, Refusal};
 use crate::kept::Kept;
@@ -38,7 +38,8 @@ fn read_in(alloc: Global, bytes: &[u8]) -> Result<Verified, VerifiedError>
 
 /// The session of the file that some bytes are.
 pub fn open(alloc: Global, bytes: &[u8], bounds: &Bounds) -> Result<Kept, Unopened>
-    ensures { MatchResult result (λ kept. IsBegun bytes.now bounds.now kept.session) (IsUnopened bytes.now bounds.now) }
+    ensures { MatchResult result (λ kept. IsOpenedFor bytes.now bounds.now kept.session)
+        (IsUnopenedFor bytes.now bounds.now) }
 {
     match read_in(alloc, bytes) {
         Ok(verified) => Kept::open(alloc, verified, bounds),

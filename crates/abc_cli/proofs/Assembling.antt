@@ -18,9 +18,9 @@ use Rattle.abc_text_lines.specs.declared.reason.AsmReason.TheVariants as reasons
 use Rattle.abc_cli_answers.specs.declared.stop.Stop.{Stop}
 use Rattle.abc_cli_answers.specs.declared.stop.Stop.TheVariants as stops
 use Rattle.abc_cli_answers.specs.End.{Channel, HasFailed}
-use Rattle.abc_cli_answers.specs.Answers.{On, given}
+use Rattle.abc_cli_answers.specs.Answers.{On, bytes_answer}
 use Rattle.abc_cli.specs.Outcome.{Asm, text_limit}
-use Rattle.abc_cli_answers.specs.Stops.{Gives, Stops, StopsAt, stop_answer, stop_of_asm, stop_of_input}
+use Rattle.abc_cli_answers.specs.Stops.{GivesAllBytes, Stops, StopsAt, stop_answer, stop_of_asm, stop_of_input}
 use Rattle.abc_cli_answers.proofs.Ending.{memory_stops}
 use Rattle.abc_cli.proofs.Files.{memory_stops_at}
 
@@ -68,14 +68,14 @@ pub asm_stops_at : (text : List ℕ) (e : AsmError) → length text ≤ text_lim
 asm_stops_at text (faults.Refused line reason) short h = record { answer = λ d. Asm.refused (fault line reason) short h refl; read = λ e. absurd cc }
 asm_stops_at text faults.NoMemory short h = memory_stops_at (Asm text)
 
-pub assembled_gives : (text bytes : List ℕ) (v : Abc) → length text ≤ text_limit → IsAssemblyOf text v → bytes ≡ file_bytes v → Asm text (given bytes)
-assembled_gives text bytes v short is e = Asm.assembled v short is (ap given e)
+pub assembled_gives : (text bytes : List ℕ) (v : Abc) → length text ≤ text_limit → IsAssemblyOf text v → bytes ≡ file_bytes v → Asm text (bytes_answer bytes)
+assembled_gives text bytes v short is e = Asm.assembled v short is (ap bytes_answer e)
 
 -- ---- the command
 
-pub text_gives : (source : Channel) (text bytes : List ℕ) → Consumes source.before source.after text → IsAtEnd source.after → Asm text (given bytes) → Gives Asm source bytes
+pub text_gives : (source : Channel) (text bytes : List ℕ) → Consumes source.before source.after text → IsAtEnd source.after → Asm text (bytes_answer bytes) → GivesAllBytes Asm source bytes
 text_gives source text bytes taken end x = record {
-  outcome = held (λ input. Asm input (given bytes)) source.before source.after text taken end x;
+  outcome = held (λ input. Asm input (bytes_answer bytes)) source.before source.after text taken end x;
   used_up = held_whole source.before source.after text taken end;
 }
 

@@ -9,7 +9,7 @@ use Rattle.abc_cli_answers.proofs.Ending.{line_ends, stopped_undone, stops_as}
 use Rattle.abc_cli.proofs.EndedRuns.{meant_not_usage, meant_quiet}
 use Rattle.abc_cli_answers.proofs.Runs.{memory_runs, runs_weaker}
 use Rattle.abc_cli_answers.proofs.Unverified.{unverified_not_usage, unverified_quiet}
-use Rattle.abc_cli_answers.specs.Answers.{Answer, OfFileRead, On, Unverified, told}
+use Rattle.abc_cli_answers.specs.Answers.{Answer, OfFileRead, On, Unverified, line_answer}
 use Rattle.abc_cli.specs.Calls.{Calls, IsCalled}
 use Rattle.abc_cli_answers.specs.End.{Channel, Got, GivesLine, HasFailed, RunsTo}
 use Rattle.abc_cli.specs.Endings.{open_answer}
@@ -27,7 +27,7 @@ use Rattle.abc_link_names.specs.Linked.{LinkedFile}
 use Rattle.abc_file_types.specs.declared.tables.Abc.{Abc}
 use Rattle.abc_meaning.specs.Exports.{export}
 use Rattle.abc_machine.specs.Machines.{IsOpened, Opened}
-use Rattle.abc_meaning.specs.Openings.{IsRefused}
+use Rattle.abc_meaning.specs.Openings.{IsOpeningRefused}
 use Rattle.abc_session.specs.Ticks.{calls_meaning}
 use Rattle.abc_cli_answers.specs.declared.command.CallsOptions.{CallsOptions}
 use Rattle.abc_verify.proofs.Verifying.{of_any}
@@ -51,22 +51,22 @@ called_runs o p limits starts method out err s same fits exports end =
     runs_weaker (IsMeant p.linked.file starts (calls_meaning p (limits_of o.run) o.run.fuel o.times method)) (IsCalled o p starts) ⊥ ⊥ out err s (λ a x. IsCalled.ran method f exports x) (λ h. h) e
 
 pub unexported_runs : (o : CallsOptions) (p : Setting) (limits : Limits) (starts : List (List ℕ)) (out err : Channel) (s : Status) → limits ≡ limits_of o.run → too_small (first_world p limits).heap ≡ None → export p (codes "tick") ≡ None
-    → Got out [] → GivesLine err (told status.Refused no_export_text) s → RunsTo (IsCalled o p starts) ⊥ out err s
+    → Got out [] → GivesLine err (line_answer status.Refused no_export_text) s → RunsTo (IsCalled o p starts) ⊥ out err s
 unexported_runs o p limits starts out err s same fits exports got line =
     let f = subst (λ (k : Limits). too_small (first_world p k).heap ≡ None) same fits in
-    RunsTo.other (line_ends (λ a. IsCalled o p starts a × (a.status ≢ status.Done)) ⊥ out err (told status.Refused no_export_text) s (IsCalled.unexported f exports refl, λ h. cc) got line)
+    RunsTo.other (line_ends (λ a. IsCalled o p starts a × (a.status ≢ status.Done)) ⊥ out err (line_answer status.Refused no_export_text) s (IsCalled.unexported f exports refl, λ h. cc) got line)
 
 pub opened_calls : (l : LinkedFile) (fs : List Formula) (limits : Limits) (o : CallsOptions) (m : Opened) (starts : List (List ℕ)) (out err : Channel) (s : Status) → IsOpened l fs limits m → RunsTo (IsCalled o (p_of m.linked fs) starts) ⊥ out err s
     → RunsTo (IsCalled o (p_of l fs) starts) ⊥ out err s
 opened_calls l fs limits o m starts out err s is end =
     subst (λ (x : LinkedFile). RunsTo (IsCalled o (p_of x fs) starts) ⊥ out err s) (ap (λ (x : Opened). x.linked) is.is) end
 
-pub unopened_calls : (l : LinkedFile) (fs : List Formula) (limits : Limits) (o : CallsOptions) (e : OpenError) (starts : List (List ℕ)) (out err : Channel) (s : Status) → IsRefused (p_of l fs) limits e → limits ≡ limits_of o.run
+pub unopened_calls : (l : LinkedFile) (fs : List Formula) (limits : Limits) (o : CallsOptions) (e : OpenError) (starts : List (List ℕ)) (out err : Channel) (s : Status) → IsOpeningRefused (p_of l fs) limits e → limits ≡ limits_of o.run
     → Got out [] → GivesLine err (open_answer e) s → RunsTo (IsCalled o (p_of l fs) starts) ⊥ out err s
 unopened_calls l fs limits o errors.NoMemory starts out err s small same got line = memory_runs (IsCalled o (p_of l fs) starts) ⊥ out err s got line
 unopened_calls l fs limits o (errors.TooSmall limit) starts out err s small same got line =
     let f = subst (λ (k : Limits). too_small (first_world (p_of l fs) k).heap ≡ Some limit) same small in
-    RunsTo.other (line_ends (λ a. IsCalled o (p_of l fs) starts a × (a.status ≢ status.Done)) ⊥ out err (told status.Limit (limit_text limit)) s (IsCalled.unopened limit f refl, λ h. cc) got line)
+    RunsTo.other (line_ends (λ a. IsCalled o (p_of l fs) starts a × (a.status ≢ status.Done)) ⊥ out err (line_answer status.Limit (limit_text limit)) s (IsCalled.unopened limit f refl, λ h. cc) got line)
 
 -- a file that isn't verified, or no file
 pub unverified_calls : (o : CallsOptions) (fs : List Formula) (source out err : Channel) (stop : Stop) (s : Status) → Stops (OfFileRead Unverified) source stop → Got out [] → GivesLine err (stop_answer stop) s

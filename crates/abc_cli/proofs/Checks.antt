@@ -6,9 +6,9 @@ use Rattle.abc_verify.proofs.Verifying.{of_any}
 use Rattle.abc_verify.specs.Verified.{IsReadVerified}
 use Rattle.abc_cli_answers.specs.Lines.{verified_line}
 use Rattle.abc_cli_answers.specs.End.{Channel}
-use Rattle.abc_cli_answers.specs.Answers.{Answer, OfFileRead, Unverified, given}
+use Rattle.abc_cli_answers.specs.Answers.{Answer, OfFileRead, Unverified, bytes_answer}
 use Rattle.abc_cli.specs.Outcome.{Check}
-use Rattle.abc_cli_answers.specs.Stops.{Gives}
+use Rattle.abc_cli_answers.specs.Stops.{GivesAllBytes}
 
 -- ---- `check`
 
@@ -18,9 +18,9 @@ unverified_checked input a (OfFileRead.accepted v starts r x) = OfFileRead.accep
 unverified_checked input a (OfFileRead.refused r bad x) = OfFileRead.refused r bad x
 
 pub verified_gives : (source : Channel) (l : LinkedFile) (starts : List (List ℕ)) (bytes : List ℕ) (count : ℕ) → OfInput source.before (IsReadVerified l starts) → IsUsedUp source.before source.after
-    → bytes ≡ verified_line count → count ≡ length l.file.bodies → Gives (OfFileRead Check) source bytes
+    → bytes ≡ verified_line count → count ≡ length l.file.bodies → GivesAllBytes (OfFileRead Check) source bytes
 verified_gives source l starts bytes count f used e is = record {
-  outcome = of_any (IsReadVerified l starts) (λ input. OfFileRead Check input (given bytes)) source.before
-      (λ b x. OfFileRead.accepted l.file starts x.read (Check.verified l x.verified (ap given (e ∙ ap verified_line is)))) f;
+  outcome = of_any (IsReadVerified l starts) (λ input. OfFileRead Check input (bytes_answer bytes)) source.before
+      (λ b x. OfFileRead.accepted l.file starts x.read (Check.verified l x.verified (ap bytes_answer (e ∙ ap verified_line is)))) f;
   used_up = used;
 }

@@ -11,16 +11,16 @@ use Rattle.abc_base.specs.declared.status.Status.{Status}
 use Rattle.abc_base.specs.declared.status.Status.TheVariants as status
 use Rattle.abc_bodies.specs.Places.{ArePlaces}
 use Rattle.abc_cli_answers.proofs.Ending.{line_ends}
-use Rattle.abc_cli_answers.specs.Answers.{Answer, given}
+use Rattle.abc_cli_answers.specs.Answers.{Answer, bytes_answer}
 use Rattle.abc_cli_answers.specs.End.{Channel, channel, Got, GivesLine, RunsTo}
-use Rattle.abc_cli.specs.Endings.{HasPlace, IsPlacedEnd, end_answer, open_answer}
+use Rattle.abc_cli.specs.Endings.{HasCodePlace, IsPlacedEnd, end_answer, open_answer}
 use Rattle.abc_cli_answers.specs.Lines.{fuel_spent_text, limit_text, no_memory_text, uncaught_text}
-use Rattle.abc_cli.specs.Meant.{IsEnded, IsMeant, ended}
+use Rattle.abc_cli.specs.Meant.{IsEnded, IsMeant, bytes_and_line}
 use Rattle.abc_meaning.specs.Lines.{thrown_name}
 use Rattle.abc_heap_store.specs.declared.records.Limit.{Limit}
 use Rattle.abc_heap_store.specs.declared.records.Limits.{Limits}
 use Rattle.abc_link_names.specs.PartsByNumber.{body_at, no_body}
-use Rattle.abc_meaning.specs.ThrowLaws.{IsVerified}
+use Rattle.abc_meaning.specs.ThrowLaws.{IsVerifiedSetting}
 use Rattle.abc_meaning.specs.Meaning.{Meaning, Ran, TooSmall, first_state, first_world, meaning, meaning_if, runs_for, too_small}
 use Rattle.abc_meaning.specs.Throwing as meant
 use Rattle.abc_meaning.specs.Setting.{Setting}
@@ -52,11 +52,11 @@ is_ended v starts wrote e ends.WriteFault is = absurd is
 
 -- every end but a stuck one has an answer
 pub some_answer : (v : Abc) (starts : List (List ℕ)) (wrote : List ℕ) (e : meant.End) → (e ≡ meant.Stuck → ⊥) → (a : Answer) × IsEnded v starts wrote e a × (a.out ≡ wrote)
-some_answer v starts wrote meant.Done free = (given wrote, refl, refl)
-some_answer v starts wrote (meant.Uncaught t) free = (ended status.Uncaught wrote (uncaught_text (thrown_name v t)), refl, refl)
+some_answer v starts wrote meant.Done free = (bytes_answer wrote, refl, refl)
+some_answer v starts wrote (meant.Uncaught t) free = (bytes_and_line status.Uncaught wrote (uncaught_text (thrown_name v t)), refl, refl)
 some_answer v starts wrote (meant.Profile m i fault) free = (full v starts wrote (ends.Profile m i fault), refl, refl)
-some_answer v starts wrote meant.FuelSpent free = (ended status.Fuel wrote fuel_spent_text, refl, refl)
-some_answer v starts wrote (meant.Full limit) free = (ended status.Limit wrote (limit_text limit), refl, refl)
+some_answer v starts wrote meant.FuelSpent free = (bytes_and_line status.Fuel wrote fuel_spent_text, refl, refl)
+some_answer v starts wrote (meant.Full limit) free = (bytes_and_line status.Limit wrote (limit_text limit), refl, refl)
 some_answer v starts wrote meant.Stuck free = absurd (free refl)
 
 module _ (v : Abc) (starts : List (List ℕ)) (old new : Option (List ℕ)) (n k : ℕ) (err : Channel) (s : Status) where
@@ -68,7 +68,7 @@ module _ (v : Abc) (starts : List (List ℕ)) (old new : Option (List ℕ)) (n k
   line_told m a is not got line = RunsTo.other (line_ends (λ x. IsMeant v starts m x × (x.status ≢ status.Done)) ⊥ out err a s (is, not) got line)
 
   ended_runs : (wrote : List ℕ) (e : meant.End) (end : End) → IsEndOf e end → Got out wrote → GivesLine err (end_answer v starts end) s → (end ≡ ends.Done → (s ≡ status.Done) × Got err []) → RunsTo (IsMeant v starts (Ran wrote e)) ⊥ out err s
-  ended_runs wrote e ends.Done is got line silent = RunsTo.done (given wrote) (is_ended v starts wrote e ends.Done is) refl got (silent refl).1 (silent refl).0
+  ended_runs wrote e ends.Done is got line silent = RunsTo.done (bytes_answer wrote) (is_ended v starts wrote e ends.Done is) refl got (silent refl).1 (silent refl).0
   ended_runs wrote e (ends.Uncaught t) is got line silent = line_told (Ran wrote e) (full v starts wrote (ends.Uncaught t)) (is_ended v starts wrote e (ends.Uncaught t) is) (λ h. cc) got line
   ended_runs wrote e (ends.Profile m i fault) is got line silent = line_told (Ran wrote e) (full v starts wrote (ends.Profile m i fault)) (is_ended v starts wrote e (ends.Profile m i fault) is) (λ h. cc) got line
   ended_runs wrote e ends.FuelSpent is got line silent = line_told (Ran wrote e) (full v starts wrote ends.FuelSpent) (is_ended v starts wrote e ends.FuelSpent is) (λ h. cc) got line
@@ -101,7 +101,7 @@ run_quiet v starts err ends.WriteFault s (inr g) d = let k : s ≡ status.WriteF
 -- ---- places
 
 -- an instruction of a method has a place
-has_place : (v : Abc) (starts : List (List ℕ)) (m i : ℕ) → ArePlaces v.bodies starts → IsInstruction v m i → HasPlace v starts m i
+has_place : (v : Abc) (starts : List (List ℕ)) (m i : ℕ) → ArePlaces v.bodies starts → IsInstruction v m i → HasCodePlace v starts m i
 has_place v starts m i p at =
     let b = at.body in
     let long = p.each b (body_at v b) (slice_get-get_or v.bodies b no_body at.low) in
@@ -168,7 +168,7 @@ unopened_quiet err errors.NoMemory s line d = told_quiet err status.NoMemory no_
 unopened_quiet err (errors.TooSmall limit) s line d = told_quiet err status.Limit (limit_text limit) s (λ h. cc) line d
 
 -- a machine for a verified file can be run
-pub machine_verified : (l : LinkedFile) (fs : List Formula) (limits : Limits) (m : Opened) → IsOpened l fs limits m → IsVerifiedOf l.file l → AreFormulas fs → IsVerified (record { linked = m.linked; formulas = fs })
+pub machine_verified : (l : LinkedFile) (fs : List Formula) (limits : Limits) (m : Opened) → IsOpened l fs limits m → IsVerifiedOf l.file l → AreFormulas fs → IsVerifiedSetting (record { linked = m.linked; formulas = fs })
 machine_verified l fs limits m is v host =
-    let all : IsVerified (record { linked = l; formulas = fs }) = record { fits = v.linked.fits; linked = v.linked; typed = v.typed; host = host } in
-    subst (λ (x : LinkedFile). IsVerified (record { linked = x; formulas = fs })) (sym (ap (λ (x : Opened). x.linked) is.is)) all
+    let all : IsVerifiedSetting (record { linked = l; formulas = fs }) = record { fits = v.linked.fits; linked = v.linked; typed = v.typed; host = host } in
+    subst (λ (x : LinkedFile). IsVerifiedSetting (record { linked = x; formulas = fs })) (sym (ap (λ (x : Opened). x.linked) is.is)) all

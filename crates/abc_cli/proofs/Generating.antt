@@ -6,8 +6,8 @@ use Rattle.abc_base.specs.declared.status.Status.{Status}
 use Rattle.abc_base.specs.declared.status.Status.TheVariants as status
 use Rattle.abc_base.proofs.Writing.{front_first}
 use Rattle.abc_bodies.specs.Places.{ArePlaces}
-use Rattle.abc_cli_answers.specs.Generated.{generated}
-use Rattle.abc_cli_answers.specs.Measured.{measured}
+use Rattle.abc_cli_answers.specs.Generated.{generated_file}
+use Rattle.abc_cli_answers.specs.Measured.{size_lines}
 use Rattle.abc_cli_answers.specs.Placed.{IsReadAgain}
 use Rattle.abc_meaning.specs.Meaning.{meaning}
 use Rattle.abc_link_names.specs.Linked.{LinkedFile}
@@ -15,11 +15,11 @@ use Rattle.abc_file_types.specs.declared.tables.Abc.{Abc}
 use Rattle.abc_file_types.specs.Files.{Fits, file_bytes}
 use Rattle.abc_file_types.proofs.Whole.{read_spelled}
 use Rattle.abc_cli_answers.specs.declared.command.GenOptions.{GenOptions}
-use Rattle.abc_cli_answers.specs.Answers.{Answer, OfFileRead, On, Unverified, given}
+use Rattle.abc_cli_answers.specs.Answers.{Answer, OfFileRead, On, Unverified, bytes_answer}
 use Rattle.abc_cli_answers.specs.End.{Channel, channel, Got, GivesBytes, GivesLine, HasFailed, IsEnd, RunsTo}
 use Rattle.abc_cli_answers.specs.Stops.{Stops, stop_answer, stop_of_verified}
 use Rattle.abc_cli_answers.specs.declared.stop.Stop.{Stop}
-use Rattle.abc_cli.specs.Runs.{Gen, Run, default_options}
+use Rattle.abc_cli.specs.Runs.{Gen, RunOfFile, default_options}
 use Rattle.abc_cli.specs.Meant.{IsMeant, limits_of}
 use Rattle.abc_session.proofs.Pieces.{front_both, got_both}
 use Rattle.abc_cli_answers.proofs.Ending.{bytes_failed, rose_later, weaker}
@@ -61,19 +61,19 @@ never_read v starts e (IsUnverified.untyped l m b i rule is linked numbered h) =
 
 module _ (fs : List Formula) (v : Abc) (starts : List (List ℕ)) (again : IsReadAgain v starts) where
   abbrev AsRead : Answer → Type 0
-  AsRead = On (OfFileRead (Run default_options fs)) (Some (file_bytes v))
+  AsRead = On (OfFileRead (RunOfFile default_options fs)) (Some (file_bytes v))
 
-  as_read : (F : Type 0) (out err : Channel) (s : Status) → (F → ⊥) → RunsTo AsRead F out err s → RunsTo (OfFileRead (Run default_options fs) (file_bytes v)) ⊥ out err s
-  as_read F out err s never end = runs_weaker AsRead (OfFileRead (Run default_options fs) (file_bytes v)) F ⊥ out err s (λ a x. x) never end
+  as_read : (F : Type 0) (out err : Channel) (s : Status) → (F → ⊥) → RunsTo AsRead F out err s → RunsTo (OfFileRead (RunOfFile default_options fs) (file_bytes v)) ⊥ out err s
+  as_read F out err s never end = runs_weaker AsRead (OfFileRead (RunOfFile default_options fs) (file_bytes v)) F ⊥ out err s (λ a x. x) never end
 
   pub file_runs : (l : LinkedFile) (out err : Channel) (s : Status) → IsVerifiedOf v l
       → RunsTo (IsMeant l.file starts (meaning (record { linked = l; formulas = fs }) (limits_of default_options) default_options.fuel)) ⊥ out err s
-      → RunsTo (OfFileRead (Run default_options fs) (file_bytes v)) ⊥ out err s
+      → RunsTo (OfFileRead (RunOfFile default_options fs) (file_bytes v)) ⊥ out err s
   file_runs l out err s is end =
       as_read ⊥ out err s (λ h. h) (verified_runs default_options fs l starts (Some (file_bytes v)) ⊥ out err s (read_verified_is (Some (file_bytes v)) v starts l again is) end)
 
   pub file_unverified : (e : VerifiedError) (stop : Stop) (out err : Channel) (s : Status) → IsUnverifiedBy v starts e → stop ≡ stop_of_verified e → Got out [] → GivesLine err (stop_answer stop) s
-      → RunsTo (OfFileRead (Run default_options fs) (file_bytes v)) ⊥ out err s
+      → RunsTo (OfFileRead (RunOfFile default_options fs) (file_bytes v)) ⊥ out err s
   file_unverified e stop out err s h is got line =
       as_read (HasFailed (input_of (file_bytes v))) out err s (never_failed (file_bytes v))
       (unverified_runs default_options fs (input_of (file_bytes v)) out err stop s
@@ -98,10 +98,10 @@ done_or t = inr (λ h. cc)
 
 module _ (o : GenOptions) (fs : List Formula) where
   abbrev Ran : Answer → Type 0
-  Ran = OfFileRead (Run default_options fs) (file_bytes (generated o.seed o.methods))
+  Ran = OfFileRead (RunOfFile default_options fs) (file_bytes (generated_file o.seed o.methods))
 
   abbrev lines : List ℕ
-  lines = measured (generated o.seed o.methods)
+  lines = size_lines (generated_file o.seed o.methods)
 
   -- a run that isn't done
   undone : (out err : Channel) (s : Status) → RunsTo Ran ⊥ out err s → s ≢ status.Done → IsEnd (Gen o fs) ⊥ out err s
@@ -110,7 +110,7 @@ module _ (o : GenOptions) (fs : List Formula) where
   undone out err s (RunsTo.cut a x rose front line) not = go (done_or a.status)
     where
       go : (a.status ≡ status.Done) ⊎ (a.status ≢ status.Done) → IsEnd (Gen o fs) ⊥ out err s
-      go (inl e) = bytes_failed (Gen o fs) ⊥ out err (given (a.out ++ lines)) s (Gen.done a x e refl) rose (λ some. front_first out.before out.after a.out lines (front some)) line
+      go (inl e) = bytes_failed (Gen o fs) ⊥ out err (bytes_answer (a.out ++ lines)) s (Gen.done a x e refl) rose (λ some. front_first out.before out.after a.out lines (front some)) line
       go (inr is_other) = bytes_failed (Gen o fs) ⊥ out err a s (Gen.not_done x is_other) rose front line
 
   -- a run that is done wrote all of an answer that is
@@ -142,25 +142,25 @@ module _ (o : GenOptions) (fs : List Formula) where
   then_lines old mid new n m k before err r s x d le (inl g) =
       let b = is_done (channel old mid n m) before r x d in
       subst (λ (t : Status). IsEnd (Gen o fs) ⊥ (channel old new n k) err t) (sym g.2)
-      (IsEnd.defined (given (b.answer.out ++ lines)) (Gen.done b.answer b.ran b.is refl) (got_both old mid new b.answer.out lines b.got g.0) g.1)
+      (IsEnd.defined (bytes_answer (b.answer.out ++ lines)) (Gen.done b.answer b.ran b.is refl) (got_both old mid new b.answer.out lines b.got g.0) g.1)
   then_lines old mid new n m k before err r s x d le (inr g) =
       let b = is_done (channel old mid n m) before r x d in
-      bytes_failed (Gen o fs) ⊥ (channel old new n k) err (given (b.answer.out ++ lines)) s (Gen.done b.answer b.ran b.is refl) (rose_later n m k le g.0) (front_both old mid new b.answer.out lines b.got g.1) g.2
+      bytes_failed (Gen o fs) ⊥ (channel old new n k) err (bytes_answer (b.answer.out ++ lines)) s (Gen.done b.answer b.ran b.is refl) (rose_later n m k le g.0) (front_both old mid new b.answer.out lines b.got g.1) g.2
 
 -- ---- the file and the lines that were made
 
-pub made_undone : (o : GenOptions) (fs : List Formula) (v : Abc) (out err : Channel) (s : Status) → v ≡ generated o.seed o.methods → RunsTo (OfFileRead (Run default_options fs) (file_bytes v)) ⊥ out err s → s ≢ status.Done
+pub made_undone : (o : GenOptions) (fs : List Formula) (v : Abc) (out err : Channel) (s : Status) → v ≡ generated_file o.seed o.methods → RunsTo (OfFileRead (RunOfFile default_options fs) (file_bytes v)) ⊥ out err s → s ≢ status.Done
     → IsEnd (Gen o fs) ⊥ out err s
-made_undone o fs v out err s e x not = undone o fs out err s (subst (λ (w : Abc). RunsTo (OfFileRead (Run default_options fs) (file_bytes w)) ⊥ out err s) e x) not
+made_undone o fs v out err s e x not = undone o fs out err s (subst (λ (w : Abc). RunsTo (OfFileRead (RunOfFile default_options fs) (file_bytes w)) ⊥ out err s) e x) not
 
-pub made_done : (o : GenOptions) (fs : List Formula) (v : Abc) (made : List ℕ) (old mid new : Option (List ℕ)) (n m k : ℕ) (before err : Channel) (r s : Status) → v ≡ generated o.seed o.methods → made ≡ measured (generated o.seed o.methods)
-    → RunsTo (OfFileRead (Run default_options fs) (file_bytes v)) ⊥ (channel old mid n m) before r → r ≡ status.Done → n ≤ m → GivesBytes (channel mid new m k) err made s → IsEnd (Gen o fs) ⊥ (channel old new n k) err s
+pub made_done : (o : GenOptions) (fs : List Formula) (v : Abc) (made : List ℕ) (old mid new : Option (List ℕ)) (n m k : ℕ) (before err : Channel) (r s : Status) → v ≡ generated_file o.seed o.methods → made ≡ size_lines (generated_file o.seed o.methods)
+    → RunsTo (OfFileRead (RunOfFile default_options fs) (file_bytes v)) ⊥ (channel old mid n m) before r → r ≡ status.Done → n ≤ m → GivesBytes (channel mid new m k) err made s → IsEnd (Gen o fs) ⊥ (channel old new n k) err s
 made_done o fs v made old mid new n m k before err r s e f x d le given_lines =
-    then_lines o fs old mid new n m k before err r s (subst (λ (w : Abc). RunsTo (OfFileRead (Run default_options fs) (file_bytes w)) ⊥ (channel old mid n m) before r) e x) d le
+    then_lines o fs old mid new n m k before err r s (subst (λ (w : Abc). RunsTo (OfFileRead (RunOfFile default_options fs) (file_bytes w)) ⊥ (channel old mid n m) before r) e x) d le
     (subst (λ (l : List ℕ). GivesBytes (channel mid new m k) err l s) f given_lines)
 
 -- ---- it is no answer to words
 
 pub gen_not_usage : (o : GenOptions) (fs : List Formula) (a : Answer) → Gen o fs a → a.status ≡ status.Usage → ⊥
 gen_not_usage o fs a (Gen.done b x d is) e = let h = ap (λ (y : Answer). y.status) is in cc
-gen_not_usage o fs a (Gen.not_done x d) e = runs_not_usage default_options fs (file_bytes (generated o.seed o.methods)) a x e
+gen_not_usage o fs a (Gen.not_done x d) e = runs_not_usage default_options fs (file_bytes (generated_file o.seed o.methods)) a x e

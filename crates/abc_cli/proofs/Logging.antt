@@ -12,12 +12,12 @@ use Rattle.abc_cli_answers.proofs.Ending.{line_ends, rose_later, stopped_undone,
 use Rattle.abc_cli.proofs.EndedRuns.{ended_not_usage, ended_quiet, run_ends, run_placed, small_meant, some_answer}
 use Rattle.abc_cli_answers.proofs.Runs.{memory_runs, runs_weaker}
 use Rattle.abc_cli_answers.proofs.Unverified.{unverified_not_usage, unverified_quiet}
-use Rattle.abc_cli_answers.specs.Answers.{Answer, OfFileRead, On, Unverified, told}
+use Rattle.abc_cli_answers.specs.Answers.{Answer, OfFileRead, On, Unverified, line_answer}
 use Rattle.abc_cli_answers.specs.End.{Channel, channel, GivesAll, GivesLine, Got, GotFront, HasFailed, RunsTo}
 use Rattle.abc_cli.specs.Logs.{GivesUnopened, IsLogged, Log, front, whole_log}
 use Rattle.abc_cli.specs.Endings.{IsPlacedEnd, end_answer, open_answer}
 use Rattle.abc_cli_answers.specs.Lines.{limit_text, write_fault_text}
-use Rattle.abc_cli.specs.Meant.{ended, limits_of}
+use Rattle.abc_cli.specs.Meant.{bytes_and_line, limits_of}
 use Rattle.abc_cli_answers.specs.Stops.{Stops, stop_answer}
 use Rattle.abc_cli_answers.specs.declared.stop.Stop.{Stop}
 use Rattle.abc_file.specs.Reading.{OfInput}
@@ -31,7 +31,7 @@ use Rattle.abc_meaning.specs.Throwing as meant
 use Rattle.abc_meaning.specs.Setting.{Setting}
 use Rattle.abc_objects.specs.declared.error.OpenError.{OpenError}
 use Rattle.abc_objects.specs.declared.error.OpenError.TheVariants as errors
-use Rattle.abc_meaning.specs.Openings.{IsRefused}
+use Rattle.abc_meaning.specs.Openings.{IsOpeningRefused}
 use Rattle.abc_link_names.specs.Linked.{LinkedFile}
 use Rattle.abc_file_types.specs.declared.tables.Abc.{Abc}
 use Rattle.abc_file_types.specs.Files.{Fits, file_bytes}
@@ -80,7 +80,7 @@ small_never m old new end limit (RunsAs.failed wrote e rest) small = cc
 
 -- every meaning that is not stuck has an answer
 pub some_logged : (v : Abc) (starts : List (List ℕ)) (wrote : List ℕ) (m : Meaning) → ((output : List ℕ) → m ≡ Ran output meant.Stuck → ⊥) → (a : Answer) × IsLogged v starts wrote m a × (a.out ≡ wrote)
-some_logged v starts wrote (TooSmall limit) free = (ended status.Limit wrote (limit_text limit), refl, refl)
+some_logged v starts wrote (TooSmall limit) free = (bytes_and_line status.Limit wrote (limit_text limit), refl, refl)
 some_logged v starts wrote (Ran output e) free = some_answer v starts wrote e (λ h. free output (ap (Ran output) h))
 
 module _ (v : Abc) (starts : List (List ℕ)) (before lines : List ℕ) where
@@ -97,7 +97,7 @@ module _ (v : Abc) (starts : List (List ℕ)) (before lines : List ℕ) where
       same_end h = cc
 
   -- or writing the front failed
-  pub front_failed : (m : Meaning) (out err : Channel) (s : Status) → ((output : List ℕ) → m ≡ Ran output meant.Stuck → ⊥) → HasFailed out → GotFront out before → GivesLine err (told status.WriteFault write_fault_text) s
+  pub front_failed : (m : Meaning) (out err : Channel) (s : Status) → ((output : List ℕ) → m ≡ Ran output meant.Stuck → ⊥) → HasFailed out → GotFront out before → GivesLine err (line_answer status.WriteFault write_fault_text) s
       → RunsTo (IsLogged v starts (before ++ lines) m) ⊥ out err s
   front_failed m out err s never rose got line =
       let a = some_logged v starts (before ++ lines) m never in
@@ -119,7 +119,7 @@ unbegun_runs law starts p limits fuel before limit out err s e (inl g) =
     let small = small_meant p limits fuel limit e in
     let one = (law p limits fuel limit e).0 in
     let wrote = before ++ log p limits fuel in
-    let a = ended status.Limit wrote (limit_text limit) in
+    let a = bytes_and_line status.Limit wrote (limit_text limit) in
     let is : IsLogged p.linked.file starts wrote (meaning p limits fuel) a = subst (λ (m : Meaning). IsLogged p.linked.file starts wrote m a) (sym small) refl in
     let got : Got out wrote = subst (λ (x : List ℕ). Got out (before ++ x)) (sym one) g.0 in
     RunsTo.other (line_ends (λ x. IsLogged p.linked.file starts wrote (meaning p limits fuel) x × (x.status ≢ status.Done)) ⊥ out err a s (is, λ h. cc) got g.1)
@@ -127,11 +127,11 @@ unbegun_runs law starts p limits fuel before limit out err s e (inr g) =
     let small = small_meant p limits fuel limit e in
     let one = (law p limits fuel limit e).0 in
     let wrote = before ++ log p limits fuel in
-    let a = ended status.Limit wrote (limit_text limit) in
+    let a = bytes_and_line status.Limit wrote (limit_text limit) in
     let is : IsLogged p.linked.file starts wrote (meaning p limits fuel) a = subst (λ (m : Meaning). IsLogged p.linked.file starts wrote m a) (sym small) refl in
     RunsTo.cut a is g.0 (subst (λ (x : List ℕ). GotFront out (before ++ x)) (sym one) g.1) g.2
 
-pub unopened_logs : TooSmallIsOneLine → (starts : List (List ℕ)) (p : Setting) (limits : Limits) (fuel : ℕ) (before : List ℕ) (e : OpenError) (out err : Channel) (s : Status) → IsRefused p limits e → GivesUnopened out err before e s
+pub unopened_logs : TooSmallIsOneLine → (starts : List (List ℕ)) (p : Setting) (limits : Limits) (fuel : ℕ) (before : List ℕ) (e : OpenError) (out err : Channel) (s : Status) → IsOpeningRefused p limits e → GivesUnopened out err before e s
     → RunsTo (IsLogged p.linked.file starts (before ++ log p limits fuel) (meaning p limits fuel)) ⊥ out err s
 unopened_logs law starts p limits fuel before (errors.TooSmall limit) out err s small g = unbegun_runs law starts p limits fuel before limit out err s small g
 unopened_logs law starts p limits fuel before errors.NoMemory out err s small g = memory_runs (IsLogged p.linked.file starts (before ++ log p limits fuel) (meaning p limits fuel)) ⊥ out err s g.0 g.1

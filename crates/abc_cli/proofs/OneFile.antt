@@ -5,11 +5,11 @@ use Rattle.std.specs.Prelude.{if◌then◌else◌, nat_eq}
 use Rattle.abc_base.specs.declared.status.Status.TheVariants as status
 use Rattle.abc_file_types.specs.Files.{IsFile, IsFileRead, file_read}
 use Rattle.abc_file_types.specs.Law.{IsDetermined}
-use Rattle.abc_file_types.specs.Part.{Begins, at}
+use Rattle.abc_file_types.specs.Part.{Begins, at_of}
 use Rattle.abc_file_types.specs.declared.tables.Abc.{Abc}
 use Rattle.abc_file_types.proofs.Determined.{determined}
 use Rattle.abc_file_types.proofs.Whole.{decided, file_read-exact, read_spelled}
-use Rattle.abc_link_layouts.specs.Numbering.{IsNumbered}
+use Rattle.abc_link_layouts.specs.Numbering.{HasLayoutNumbers}
 use Rattle.abc_link_names.specs.Items.{kind_number, rule_number}
 use Rattle.abc_link_names.specs.Rules.{IsFirstBroken}
 use Rattle.abc_link_names.specs.declared.items.Item.{Item}
@@ -27,9 +27,9 @@ use Rattle.abc_verify.specs.declared.verified_error.VerifiedError.{VerifiedError
 use Rattle.abc_link_names.proofs.MethodBodies.{body_inside}
 use Rattle.abc_verify.proofs.Single.{one_numbered}
 use Rattle.abc_verify_typing.specs.declared.rule.VerifyRule.{VerifyRule}
-use Rattle.abc_cli_answers.specs.Answers.{Answer, OfFile, OfFileRead, Unverified, told}
+use Rattle.abc_cli_answers.specs.Answers.{Answer, OfFile, OfFileRead, Unverified, line_answer}
 use Rattle.abc_cli_answers.specs.Lines.{item_text, refusal_text, unverified_text}
-use Rattle.abc_cli.specs.Answered.{AreAlike, NamesMethod}
+use Rattle.abc_cli.specs.Answered.{AreAlikeAnswers, NamesMethod}
 
 -- ---- bytes that spell a file, or are refused
 
@@ -37,29 +37,29 @@ pub one_of_file : (Answers : Abc → Answer → Type 0) → ((v : Abc) (a b : An
 one_of_file Answers one input a b (OfFile.accepted v f x) (OfFile.accepted w g y) = one v a b x (subst (λ u. Answers u b) (sym ((decided input).one_value v w f g)) y)
 one_of_file Answers one input a b (OfFile.accepted v f x) (OfFile.refused r bad y) = absurd ((decided input).never_both v r f bad)
 one_of_file Answers one input a b (OfFile.refused r bad x) (OfFile.accepted w g y) = absurd ((decided input).never_both w r g bad)
-one_of_file Answers one input a b (OfFile.refused r bad x) (OfFile.refused s worse y) = x ∙ ap (λ q. told status.Refused (refusal_text q)) ((decided input).one_refusal r s bad worse) ∙ sym y
+one_of_file Answers one input a b (OfFile.refused r bad x) (OfFile.refused s worse y) = x ∙ ap (λ q. line_answer status.Refused (refusal_text q)) ((decided input).one_refusal r s bad worse) ∙ sym y
 
 law : IsDetermined file_read
 law = determined file_read file_read-exact
 
-begins : (v : Abc × List (List ℕ)) (b : List ℕ) → IsFileRead v b → Begins file_read (at 0 b) v (at (length b) [])
+begins : (v : Abc × List (List ℕ)) (b : List ℕ) → IsFileRead v b → Begins file_read (at_of 0 b) v (at_of (length b) [])
 begins v b f = record { front = b; spelled = f.0; is = record { parts = sym (append-nil b); place = omega arith; room = f.1; same = refl; within = λ h. omega arith } }
 
 -- bytes are read as one file with one list of starts
 pub one_read : (v w : Abc × List (List ℕ)) (b : List ℕ) → IsFileRead v b → IsFileRead w b → v ≡ w
-one_read v w b f g = (law.one_value (at 0 b) v w (at (length b) []) (at (length b) []) (begins v b f) (begins w b g)).0
+one_read v w b f g = (law.one_value (at_of 0 b) v w (at_of (length b) []) (at_of (length b) []) (begins v b f) (begins w b g)).0
 
 pub file_of : (v : Abc) (starts : List (List ℕ)) (b : List ℕ) → IsFileRead (v, starts) b → IsFile v b
 file_of v starts b f = (read_spelled (v, starts) b f.0, f.1)
 
 -- two answers of a command that speaks of code as it was read
-pub one_of_read : (Answers : Abc → List (List ℕ) → Answer → Type 0) (file : List ℕ) → ((v : Abc) (starts : List (List ℕ)) (a b : Answer) → IsFileRead (v, starts) file → Answers v starts a → Answers v starts b → AreAlike file a b)
-    → (a b : Answer) → OfFileRead Answers file a → OfFileRead Answers file b → AreAlike file a b
+pub one_of_read : (Answers : Abc → List (List ℕ) → Answer → Type 0) (file : List ℕ) → ((v : Abc) (starts : List (List ℕ)) (a b : Answer) → IsFileRead (v, starts) file → Answers v starts a → Answers v starts b → AreAlikeAnswers file a b)
+    → (a b : Answer) → OfFileRead Answers file a → OfFileRead Answers file b → AreAlikeAnswers file a b
 one_of_read Answers file one a b (OfFileRead.accepted v starts f x) (OfFileRead.accepted w others g y) =
     one v starts a b f x (subst (λ (p : Abc × List (List ℕ)). Answers p.0 p.1 b) (sym (one_read (v, starts) (w, others) file f g)) y)
 one_of_read Answers file one a b (OfFileRead.accepted v starts f x) (OfFileRead.refused r bad y) = absurd ((decided file).never_both v r (file_of v starts file f) bad)
 one_of_read Answers file one a b (OfFileRead.refused r bad x) (OfFileRead.accepted w others g y) = absurd ((decided file).never_both w r (file_of w others file g) bad)
-one_of_read Answers file one a b (OfFileRead.refused r bad x) (OfFileRead.refused s worse y) = inl (x ∙ ap (λ q. told status.Refused (refusal_text q)) ((decided file).one_refusal r s bad worse) ∙ sym y)
+one_of_read Answers file one a b (OfFileRead.refused r bad x) (OfFileRead.refused s worse y) = inl (x ∙ ap (λ q. line_answer status.Refused (refusal_text q)) ((decided file).one_refusal r s bad worse) ∙ sym y)
 
 -- ---- the first broken rule of linking
 
@@ -143,10 +143,10 @@ same_untyped l m n b c i j r s f g = go (cases_order m n)
     go (inr (inr lt)) = absurd (g.2.untyped (f.1 n lt c g.2.of_method))
 
 -- why a file isn't verified, told twice
-pub one_unverified : (file : List ℕ) (v : Abc) (starts : List (List ℕ)) (d e : VerifiedError) (a b : Answer) → IsFileRead (v, starts) file → IsUnverified v starts d → IsUnverified v starts e → a ≡ told status.Refused (unverified_text d) → b ≡ told status.Refused (unverified_text e) → AreAlike file a b
+pub one_unverified : (file : List ℕ) (v : Abc) (starts : List (List ℕ)) (d e : VerifiedError) (a b : Answer) → IsFileRead (v, starts) file → IsUnverified v starts d → IsUnverified v starts e → a ≡ line_answer status.Refused (unverified_text d) → b ≡ line_answer status.Refused (unverified_text e) → AreAlikeAnswers file a b
 one_unverified file v starts d e a b read (unlinked rule i f) (unlinked other j g) x y =
     let same = same_broken v rule other i j f g in
-    inl (x ∙ (λ t. told status.Refused (item_text (same.1 t) (same.0 t))) ∙ sym y)
+    inl (x ∙ (λ t. line_answer status.Refused (item_text (same.1 t) (same.0 t))) ∙ sym y)
 one_unverified file v starts d e a b read (unlinked rule i f) (untyped l m c k r is linked numbered g) x y = absurd (none_broken v l rule i is linked f)
 one_unverified file v starts d e a b read (untyped l m c k r is linked numbered g) (unlinked rule i f) x y = absurd (none_broken v l rule i is linked f)
 one_unverified file v starts d e a b read (untyped l m c k r is linked numbered f) (untyped l2 m2 c2 k2 r2 is2 linked2 numbered2 g) x y =
@@ -165,11 +165,11 @@ one_unverified file v starts d e a b read (untyped l m c k r is linked numbered 
       second = record { place = k2; rule = r2; refuted = h; is = y };
     })
 
-pub both_unverified : (file : List ℕ) (v : Abc) (starts : List (List ℕ)) (a b : Answer) → IsFileRead (v, starts) file → Unverified v starts a → Unverified v starts b → AreAlike file a b
+pub both_unverified : (file : List ℕ) (v : Abc) (starts : List (List ℕ)) (a b : Answer) → IsFileRead (v, starts) file → Unverified v starts a → Unverified v starts b → AreAlikeAnswers file a b
 both_unverified file v starts a b read x y = one_unverified file v starts x.0 y.0 a b read x.1 y.1 x.2 y.2
 
 -- a linked file whose bodies have typings is never unverified
-pub not_unverified : (v : Abc) (starts : List (List ℕ)) (l : LinkedFile) (e : VerifiedError) → l.file ≡ v → IsLinkedFile l → IsNumbered l → AllTyped l → IsUnverified v starts e → ⊥
+pub not_unverified : (v : Abc) (starts : List (List ℕ)) (l : LinkedFile) (e : VerifiedError) → l.file ≡ v → IsLinkedFile l → HasLayoutNumbers l → AllTyped l → IsUnverified v starts e → ⊥
 not_unverified v starts l e is linked numbered typed (unlinked rule i f) = none_broken v l rule i is linked f
 not_unverified v starts l e is linked numbered typed (untyped k m b i rule is2 linked2 numbered2 f) =
     let one : k ≡ l = one_numbered k l numbered2 numbered (is2 ∙ sym is) in

@@ -11,7 +11,7 @@ use Rattle.std.proofs.lemmas.Map.Keys.{IsDistinct-from_apart}
 use Rattle.std.proofs.lemmas.Map.Steps.{length-le_from_distinct_below}
 use Rattle.abc_base.specs.Names.{host_classes}
 use Rattle.abc_base.proofs.Spelling.{length_1, number_grows}
-use Rattle.abc_base_graphs.specs.Orders.{IsPlaced, place, order_of_all}
+use Rattle.abc_base_graphs.specs.Orders.{AreNodesPlaced, place_in_order, order_of_all}
 use Rattle.abc_base_graphs.proofs.Placing.{placed_in_range}
 use Rattle.abc_file_types.specs.CodeBytes.{canonical_starts, number_len}
 use Rattle.abc_file_types.specs.Files.{Fits}
@@ -36,14 +36,14 @@ use Rattle.abc_cli.proofs.SomeOrder.{some_order}
 
 -- ---- an order has no more nodes than there are
 
-module _ (bases : List (Option ℕ)) (order : List ℕ) (places : List (Option ℕ)) (placed : IsPlaced bases order places) where
+module _ (bases : List (Option ℕ)) (order : List ℕ) (places : List (Option ℕ)) (placed : AreNodesPlaced bases order places) where
   apart : (i j d : ℕ) → i < j → j < length order → nat_eq (get_or order i d) (get_or order j d) ≡ false
   apart i j d less low = ne_eqb (get_or order i d) (get_or order j d) differ
     where
       differ : get_or order i d ≡ get_or order j d → ⊥
       differ e =
           let same : get_or order i 0 ≡ get_or order j 0 = sym (get_or_default order i d 0 (omega (arith, less, low))) ∙ e ∙ get_or_default order j d 0 low in
-          let both : Some i ≡ Some j = sym (placed.back i (omega (arith, less, low))) ∙ ap (place places) same ∙ placed.back j low in
+          let both : Some i ≡ Some j = sym (placed.back i (omega (arith, less, low))) ∙ ap (place_in_order places) same ∙ placed.back j low in
           let k : i ≡ j = cc in
           omega (arith, k, less)
 
@@ -195,7 +195,7 @@ is_linked v fits rules =
     let t = (tables_fit v).0 f.1 in
     let d = (definitions_fit v).0 t.1 in
     let b = (bodies_fit v).0 t.2 in
-    let placed : IsPlaced (class_bases v) nodes o.0 = subst (λ (ns : List ℕ). IsPlaced (class_bases v) ns o.0) o.1.is o.1.placed in
+    let placed : AreNodesPlaced (class_bases v) nodes o.0 = subst (λ (ns : List ℕ). AreNodesPlaced (class_bases v) ns o.0) o.1.is o.1.placed in
     let some = few_nodes (class_bases v) nodes o.0 placed in
     let bases = few_bases v (class_bases v) refl in
     let classes : length v.instances < 2 ^ 30 = let m = d.class_count in let n = d.instance_count in omega (arith, m, n) in

@@ -14,20 +14,20 @@ use Rattle.abc_file_types.specs.declared.tables.Abc.{Abc}
 use Rattle.abc_heap_store.specs.declared.records.Limits.{Limits}
 use Rattle.abc_link_names.specs.Linked.{LinkedFile}
 use Rattle.abc_log.specs.Followed.{parts_from}
-use Rattle.abc_log.specs.Heads.{AllStand, GoesWrong, IsWrong, is_hex, may_stand}
+use Rattle.abc_log.specs.Heads.{AllStand, GoesWrong, IsWrong, is_lower_hex, may_stand}
 use Rattle.abc_log.specs.Lines.{AreLimits, head_line, hex_digits, limits_line, limits_text}
 use Rattle.abc_log.proofs.Standing.{digit_fits, digits_more, high_digit, low_digit}
 use Rattle.abc_meaning.specs.Inputs.{IsLogOf}
 use Rattle.abc_meaning.specs.Logs.{log, steps}
 use Rattle.abc_meaning.specs.Setting.{Setting}
-use Rattle.abc_replay.specs.Replays.{HasParts, IsRefused, SpellsVerified, error_of, place_behind}
+use Rattle.abc_replay.specs.Replays.{HasLogParts, IsLogRefused, SpellsVerified, error_of, place_behind}
 use Rattle.abc_replay.specs.declared.error.ReplayError.{ReplayError}
 use Rattle.abc_replay.specs.declared.error.ReplayError.TheVariants as errors
 use Rattle.abc_replay.specs.declared.error.ReplayReason.TheVariants as reasons
 use Rattle.abc_verify.specs.FileRefusing.{bad, unverified}
 use Rattle.abc_verify.specs.Verified.{IsVerifiedOf}
 use Rattle.abc_verify.specs.declared.verified_error.VerifiedError.TheVariants as files
-use Rattle.abc_cli_answers.specs.Answers.{Answer, given, told}
+use Rattle.abc_cli_answers.specs.Answers.{Answer, bytes_answer, line_answer}
 use Rattle.abc_cli.specs.Logs.{Replay, replayed_line, unreplayed_text}
 use Rattle.abc_cli.proofs.OneFile.{file_of}
 use Rattle.abc_cli.proofs.SomeRun.{setting_verified}
@@ -59,7 +59,7 @@ front_of (suc count) place (b ∷ bs) = go (front_of count (suc place) bs) (may_
     go f false is = let here : place ≡ place + 0 = omega arith in record { right = []; rest = b ∷ bs; parts = refl; stand = tt; ends = inr (omega arith, subst (λ (n : ℕ). IsWrong n (b ∷ bs)) here is) }
 
 -- a digit has a value
-digit_of : (x : ℕ) → is_hex x ≡ true → (d : ℕ) × (d < 16) × (x ≡ hex_digit d)
+digit_of : (x : ℕ) → is_lower_hex x ≡ true → (d : ℕ) × (d < 16) × (x ≡ hex_digit d)
 digit_of x is = elim (or_cases (nat_le 48 x && nat_le x 57) (nat_le 97 x && nat_le x 102) is) [
   | inl e ↦ (
       let p = and_parts (nat_le 48 x) (nat_le x 57) e in
@@ -81,13 +81,13 @@ unfolding head_line
 head_of more k n [] long far stand small = absurd (omega (arith, long))
 head_of zero k n (x ∷ []) long far stand small =
     let eight : k ≡ 8 = omega (arith, far) in
-    let feed : nat_eq x 10 ≡ true = sym (ap (λ (t : Bool). if t then is_hex x else nat_eq x 10) (le-ltb k 8 (omega (arith, eight)))) ∙ stand.0 in
+    let feed : nat_eq x 10 ≡ true = sym (ap (λ (t : Bool). if t then is_lower_hex x else nat_eq x 10) (le-ltb k 8 (omega (arith, eight)))) ∙ stand.0 in
     let all : n < 16 ^ 8 = subst (λ (j : ℕ). n < 16 ^ j) eight small in
     (n, omega (arith, all), λ i. hex_digits (eight i) n ++ eqb-true x 10 feed i ∷ [])
 head_of zero k n (x ∷ y ∷ xs) long far stand small = absurd (omega (arith, long))
 head_of (suc more) k n (x ∷ xs) long far stand small =
     let early : k < 8 = omega (arith, far) in
-    let digit = digit_of x (sym (ap (λ (t : Bool). if t then is_hex x else nat_eq x 10) (lt-ltb k 8 early)) ∙ stand.0) in
+    let digit = digit_of x (sym (ap (λ (t : Bool). if t then is_lower_hex x else nat_eq x 10) (lt-ltb k 8 early)) ∙ stand.0) in
     let d = digit.0 in
     let next = n * 16 + d in
     let fits = digit_fits k n d early small digit.1 in
@@ -101,10 +101,10 @@ unfolding hex_digits
 no_digits = refl
 
 -- an input begins with such a line, or goes wrong in it
-wrong_or_parts : (input : List ℕ) → ((place : ℕ) × GoesWrong 0 place input) ⊎ ((bytes : List ℕ) × ((rest : List ℕ) × HasParts input bytes rest))
+wrong_or_parts : (input : List ℕ) → ((place : ℕ) × GoesWrong 0 place input) ⊎ ((bytes : List ℕ) × ((rest : List ℕ) × HasLogParts input bytes rest))
 wrong_or_parts input = go (front_of 9 0 input)
   where
-    go : HasFront 9 0 input → ((place : ℕ) × GoesWrong 0 place input) ⊎ ((bytes : List ℕ) × ((rest : List ℕ) × HasParts input bytes rest))
+    go : HasFront 9 0 input → ((place : ℕ) × GoesWrong 0 place input) ⊎ ((bytes : List ℕ) × ((rest : List ℕ) × HasLogParts input bytes rest))
     go f = elim f.ends [
       | inl e ↦ (
           let head = head_of 8 0 0 f.right e refl f.stand (omega arith) in
@@ -133,7 +133,7 @@ same_unparted i (x ∷ xs) (y ∷ ys) e = go (same_unparted (suc i) xs ys) (nat_
 abbrev setting_of : LinkedFile → List Formula → Setting
 setting_of l formulas = record { linked = l; formulas = formulas }
 
-is_log : (formulas : List Formula) (input bytes rest found : List ℕ) (l : LinkedFile) (fuel : ℕ) (m : Limits) → HasParts input bytes rest → SpellsVerified formulas bytes l → AreLimits fuel m → rest ≡ limits_line fuel m ++ found → found ≡ log (setting_of l formulas) m fuel
+is_log : (formulas : List Formula) (input bytes rest found : List ℕ) (l : LinkedFile) (fuel : ℕ) (m : Limits) → HasLogParts input bytes rest → SpellsVerified formulas bytes l → AreLimits fuel m → rest ≡ limits_line fuel m ++ found → found ≡ log (setting_of l formulas) m fuel
     → IsLogOf formulas l fuel m input
 is_log formulas input bytes rest found l fuel m parts spells within there same =
     let line : List ℕ = limits_line fuel m in
@@ -162,21 +162,21 @@ is_log formulas input bytes rest found l fuel m parts spells within there same =
 -- ---- the input
 
 module _ (formulas : List Formula) (host : AreFormulas formulas) (input : List ℕ) (none : (a : Answer) → Replay formulas input a → ⊥) where
-  never_refused : (e : ReplayError) → IsRefused formulas input e → ⊥
-  never_refused e r = none (told status.Refused (unreplayed_text e)) (Replay.refused e r refl)
+  never_refused : (e : ReplayError) → IsLogRefused formulas input e → ⊥
+  never_refused e r = none (line_answer status.Refused (unreplayed_text e)) (Replay.refused e r refl)
 
-  module _ (bytes rest : List ℕ) (parts : HasParts input bytes rest) where
+  module _ (bytes rest : List ℕ) (parts : HasLogParts input bytes rest) where
     -- behind a verified file
     log_follows : (l : LinkedFile) → SpellsVerified formulas bytes l → ⊥
-    log_follows l spells = never_refused (errors.Refused (place_behind bytes 0) reasons.LogLimits) (IsRefused.limits bytes rest l parts spells (λ fuel m found within there. follows fuel m found within there (parts_from 0 found (log (setting_of l formulas) m fuel)) refl))
+    log_follows l spells = never_refused (errors.Refused (place_behind bytes 0) reasons.LogLimits) (IsLogRefused.limits bytes rest l parts spells (λ fuel m found within there. follows fuel m found within there (parts_from 0 found (log (setting_of l formulas) m fuel)) refl))
       where
         follows : (fuel : ℕ) (m : Limits) (found : List ℕ) → AreLimits fuel m → rest ≡ limits_line fuel m ++ found → (parted : Option ℕ) → parts_from 0 found (log (setting_of l formulas) m fuel) ≡ parted → ⊥
         follows fuel m found within there None e =
             let n = steps (setting_of l formulas) m fuel in
             let is = is_log formulas input bytes rest found l fuel m parts spells within there (same_unparted 0 found (log (setting_of l formulas) m fuel) e) in
-            none (given (replayed_line n)) (Replay.replayed n (record { linked = l; fuel = fuel; limits = m; is = is; counted = refl }) refl)
+            none (bytes_answer (replayed_line n)) (Replay.replayed n (record { linked = l; fuel = fuel; limits = m; is = is; counted = refl }) refl)
         follows fuel m found within there (Some n) e =
-            never_refused (errors.Refused (place_behind bytes (length (limits_line fuel m) + n)) reasons.LogDiffers) (IsRefused.differs bytes rest found l fuel m n parts spells within there e)
+            never_refused (errors.Refused (place_behind bytes (length (limits_line fuel m) + n)) reasons.LogDiffers) (IsLogRefused.differs bytes rest found l fuel m n parts spells within there e)
 
     file_follows : ⊥
     file_follows = go (read_or_bad bytes)
@@ -191,12 +191,12 @@ module _ (formulas : List Formula) (host : AreFormulas formulas) (input : List �
         go : ((v : Abc × List (List ℕ)) × IsFileRead v bytes) ⊎ ((r : Refusal) × IsBadFile bytes r) → ⊥
         go (inl x) =
             some_verified x.0.0 x.0.1 (bytes, file_of x.0.0 x.0.1 bytes x.1) (verified x.0.0 x.0.1 x.1)
-            (λ e is. never_refused (error_of e) (IsRefused.file bytes rest e parts (unverified x.0.0 x.0.1 e x.1 is)))
-        go (inr x) = never_refused (error_of (files.Refused x.0.place x.0.reason)) (IsRefused.file bytes rest (files.Refused x.0.place x.0.reason) parts (bad x.0.place x.0.reason x.1))
+            (λ e is. never_refused (error_of e) (IsLogRefused.file bytes rest e parts (unverified x.0.0 x.0.1 e x.1 is)))
+        go (inr x) = never_refused (error_of (files.Refused x.0.place x.0.reason)) (IsLogRefused.file bytes rest (files.Refused x.0.place x.0.reason) parts (bad x.0.place x.0.reason x.1))
 
   replayed_never : ⊥
   replayed_never = elim (wrong_or_parts input) [
-    | inl w ↦ never_refused (errors.Refused w.0 reasons.LogHead) (IsRefused.head w.0 w.1)
+    | inl w ↦ never_refused (errors.Refused w.0 reasons.LogHead) (IsLogRefused.head w.0 w.1)
     | inr p ↦ file_follows p.0 p.1.0 p.1.1
   ]
 

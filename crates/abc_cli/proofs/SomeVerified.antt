@@ -4,12 +4,12 @@ use Rattle.std.specs.declared.option.Option.{Option}
 use Rattle.std.proofs.lemmas.Bool.{cases_lt}
 use Rattle.abc_file_types.specs.Files.{Fits, IsBadFile, IsFileRead, file_read}
 use Rattle.abc_file_types.specs.Law.{IsDetermined}
-use Rattle.abc_file_types.specs.Part.{At, Begins, Refusal, at, refusal}
+use Rattle.abc_file_types.specs.Part.{At, Begins, Refusal, at_of, refusal}
 use Rattle.abc_file_types.specs.declared.reason.Reason.TheVariants as reasons
 use Rattle.abc_file_types.specs.declared.tables.Abc.{Abc}
 use Rattle.abc_file_types.proofs.Determined.{determined}
 use Rattle.abc_file_types.proofs.Whole.{file_read-exact, read_bad, read_begins, whole_begins}
-use Rattle.abc_link_layouts.specs.Numbering.{IsNumbered}
+use Rattle.abc_link_layouts.specs.Numbering.{HasLayoutNumbers}
 use Rattle.abc_link_names.proofs.FirstBroken.{all_hold}
 use Rattle.abc_link_names.specs.Items.{IsItem, kind_number, rule_number}
 use Rattle.abc_link_names.specs.Rules.{AllHold, AllHoldBefore, Breaks, IsFirstBroken}
@@ -38,18 +38,18 @@ law : IsDetermined file_read
 law = determined file_read file_read-exact
 
 pub read_or_bad : (b : List ℕ) → ((v : Abc × List (List ℕ)) × IsFileRead v b) ⊎ ((r : Refusal) × IsBadFile b r)
-read_or_bad b = go (law.some (at 0 b) (omega arith))
+read_or_bad b = go (law.some (at_of 0 b) (omega arith))
   where
     is_empty : (xs : List ℕ) → (xs ≡ []) ⊎ (xs ≢ [])
     is_empty [] = inl refl
     is_empty (x ∷ xs) = inr (λ e. cc)
 
-    go : ((v : Abc × List (List ℕ)) × (after : At) × Begins file_read (at 0 b) v after) ⊎ ((r : Refusal) × file_read.bad (at 0 b) r) → ((v : Abc × List (List ℕ)) × IsFileRead v b) ⊎ ((r : Refusal) × IsBadFile b r)
+    go : ((v : Abc × List (List ℕ)) × (after : At) × Begins file_read (at_of 0 b) v after) ⊎ ((r : Refusal) × file_read.bad (at_of 0 b) r) → ((v : Abc × List (List ℕ)) × IsFileRead v b) ⊎ ((r : Refusal) × IsBadFile b r)
     go (inl s) = elim (is_empty s.1.bytes) [
       | inl none ↦ inl (s.0, whole_begins file_read s.0 b s.1 s.2 none)
-      | inr some ↦ inr (refusal s.1.place reasons.Trailing, inr (s.0.0, s.1, read_begins (at 0 b) s.0 s.1 s.2, some, refl))
+      | inr some ↦ inr (refusal s.1.place reasons.Trailing, inr (s.0.0, s.1, read_begins (at_of 0 b) s.0 s.1 s.2, some, refl))
     ]
-    go (inr r) = inr (r.0, inl (read_bad (at 0 b) r.0 r.1))
+    go (inr r) = inr (r.0, inl (read_bad (at_of 0 b) r.0 r.1))
 
 -- ---- where no rule of linking is the first broken one, all hold
 
@@ -109,7 +109,7 @@ some_verified v starts fits no_file no_reason =
     linked : IsLinkedFile (linked_of v)
     linked = is_linked v fits (rules_hold v (λ rule i f. no_reason (errors.Link rule i) (unlinked rule i f)))
 
-    numbered : IsNumbered (linked_of v)
+    numbered : HasLayoutNumbers (linked_of v)
     numbered = refl
 
     untyped_never : (m b i : ℕ) (r : VerifyRule) → IsFirstUntyped (linked_of v) m b i r → ⊥

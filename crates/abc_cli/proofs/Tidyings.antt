@@ -10,7 +10,7 @@ use Rattle.abc_tidy.proofs.Kept.{answered, kept}
 use Rattle.abc_tidy_entries.specs.Rules.{IsTidied}
 use Rattle.abc_tidy_entries.specs.declared.error.TidyError.TheVariants as errors
 use Rattle.abc_verify.proofs.Verifying.{of_any}
-use Rattle.abc_cli_answers.specs.Answers.{Answer, OfFile, given}
+use Rattle.abc_cli_answers.specs.Answers.{Answer, OfFile, bytes_answer}
 use Rattle.abc_cli_answers.specs.End.{Channel, Ends, Got, HasFailed}
 use Rattle.abc_cli_answers.specs.declared.command.Command.TheVariants as commands
 use Rattle.abc_cli.specs.Outcome.{CommandOutcome, OutcomeOf, Tidy}
@@ -18,11 +18,11 @@ use Rattle.abc_cli.specs.Tidied.{IsMadeTidy, IsTidiedOf, Tidies}
 use Rattle.abc_cli.proofs.Listings.{ended_well}
 
 -- a tidied file is tidied as it stands
-tidy_again : (v t : Abc) (a : Answer) → IsTidied v t → Tidy t a → a ≡ given (file_bytes t)
-tidy_again v t a is (Tidy.tidied u tidied x) = x ∙ ap (λ (w : Abc). given (file_bytes w)) (answered v t (Ok u) is tidied)
+tidy_again : (v t : Abc) (a : Answer) → IsTidied v t → Tidy t a → a ≡ bytes_answer (file_bytes t)
+tidy_again v t a is (Tidy.tidied u tidied x) = x ∙ ap (λ (w : Abc). bytes_answer (file_bytes w)) (answered v t (Ok u) is tidied)
 tidy_again v t a is (Tidy.untidy rule i broken x) = let k : errors.Refused rule i ≡ errors.NoMemory = answered v t (Err (errors.Refused rule i)) is broken in absurd cc
 
-bytes_again : (v t : Abc) (a : Answer) → IsTidied v t → IsFile t (file_bytes t) → OfFile Tidy (file_bytes t) a → a ≡ given (file_bytes t)
+bytes_again : (v t : Abc) (a : Answer) → IsTidied v t → IsFile t (file_bytes t) → OfFile Tidy (file_bytes t) a → a ≡ bytes_answer (file_bytes t)
 bytes_again v t a is spelled (OfFile.accepted w g x) = tidy_again v t a is (subst (λ (u : Abc). Tidy u a) ((decided (file_bytes t)).one_value w t g spelled) x)
 bytes_again v t a is spelled (OfFile.refused r bad x) = absurd ((decided (file_bytes t)).never_both t r spelled bad)
 

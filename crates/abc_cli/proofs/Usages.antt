@@ -15,11 +15,11 @@ use Rattle.abc_cli_answers.specs.declared.command.CallsOptions.{CallsOptions}
 use Rattle.abc_cli_answers.specs.declared.command.GenOptions.{GenOptions}
 use Rattle.abc_cli_answers.specs.declared.command.Usage.{Usage}
 use Rattle.abc_cli_answers.specs.declared.command.Usage.TheVariants as usages
-use Rattle.abc_cli_answers.specs.Commands.{Setting}
+use Rattle.abc_cli_answers.specs.Commands.{OptionSetting}
 use Rattle.abc_cli_answers.specs.Grammar.{GiveAll, GivesOne, IsDefault, IsUsageWord, Says}
 use Rattle.abc_cli_answers.specs.Answers.{Answer, OfFile, OfFileRead, On}
 use Rattle.abc_cli.specs.Outcome.{Asm, AsksNoInput, Canon, Check, CommandOutcome, Dis, IsUsage, OutcomeOf, TakesFor, Tidy, UsageOutcome, reads_input, usage_answer}
-use Rattle.abc_cli.specs.Runs.{Gen, Run}
+use Rattle.abc_cli.specs.Runs.{Gen, RunOfFile}
 use Rattle.abc_cli.specs.Calls.{Calls}
 use Rattle.abc_cli.specs.Logs.{Log, Replay}
 use Rattle.abc_log.specs.Lines.{AreLimits}
@@ -28,7 +28,7 @@ use Rattle.abc_cli.specs.Meant.{limits_of}
 use Rattle.abc_base.specs.declared.formula.Formula.{Formula}
 use Rattle.abc_file_types.specs.declared.tables.Abc.{Abc}
 use Rattle.abc_cli_answers.specs.End.{Channel, Ends, GivesLine, HasFailed, IsEnd, RunsTo}
-use Rattle.abc_cli_answers.specs.Stops.{Gives, IsGiven, Stops}
+use Rattle.abc_cli_answers.specs.Stops.{GivesAllBytes, IsGiven, Stops}
 use Rattle.abc_cli_answers.specs.declared.stop.Stop.{Stop}
 use Rattle.abc_cli.proofs.Called.{calls_not_usage, calls_on_quiet}
 use Rattle.abc_cli_answers.proofs.Ending.{any_input, finished, weaker}
@@ -155,15 +155,15 @@ end_not_usage fs c input F out err s (IsEnd.memory_line_failed y z w) e = cc
 
 -- ---- commands
 
-pub command_ends : (fs : List Formula) (command c : Command) (source out err : Channel) (done : Result (Vec ℕ Global) Stop) (s : Status) → command ≡ c → IfOk done (λ bytes. Gives (OutcomeOf fs c) source bytes.items)
+pub command_ends : (fs : List Formula) (command c : Command) (source out err : Channel) (done : Result (Vec ℕ Global) Stop) (s : Status) → command ≡ c → IfOk done (λ bytes. GivesAllBytes (OutcomeOf fs c) source bytes.items)
     → IfErr done (λ stop. Stops (OutcomeOf fs c) source stop) → IsGiven done out err s → Ends (CommandOutcome fs command) source out err s
 command_ends fs command c source out err done s e g x end =
     subst (λ (d : Command). Ends (CommandOutcome fs d) source out err s) (sym e) (finished (OutcomeOf fs c) source out err done s g x end)
 
-pub run_ends : (fs : List Formula) (command : Command) (o : RunOptions) (source out err : Channel) (s : Status) → command ≡ commands.Run o → RunsTo (On (OfFileRead (Run o fs)) source.before) (HasFailed source) out err s
+pub run_ends : (fs : List Formula) (command : Command) (o : RunOptions) (source out err : Channel) (s : Status) → command ≡ commands.Run o → RunsTo (On (OfFileRead (RunOfFile o fs)) source.before) (HasFailed source) out err s
     → Ends (CommandOutcome fs command) source out err s
 run_ends fs command o source out err s e end =
-    subst (λ (d : Command). Ends (CommandOutcome fs d) source out err s) (sym e) (runs_end (On (OfFileRead (Run o fs)) source.before) (HasFailed source) out err s (runs_on_quiet o fs source.before) end)
+    subst (λ (d : Command). Ends (CommandOutcome fs d) source out err s) (sym e) (runs_end (On (OfFileRead (RunOfFile o fs)) source.before) (HasFailed source) out err s (runs_on_quiet o fs source.before) end)
 
 pub calls_ends : (fs : List Formula) (command : Command) (o : CallsOptions) (source out err : Channel) (s : Status) → command ≡ commands.Calls o → RunsTo (On (OfFileRead (Calls o fs)) source.before) (HasFailed source) out err s
     → Ends (CommandOutcome fs command) source out err s
@@ -183,19 +183,19 @@ gen_ends fs command o source out err s e end =
 -- ---- numbers of options
 
 -- an option has its default, or a number in its range
-abbrev AreWithin : List Setting → Type 0
+abbrev AreWithin : List OptionSetting → Type 0
 AreWithin [] = Unit {0}
 AreWithin (x ∷ xs) = ((x.number ≡ x.option.default) ⊎ (x.number ≤ x.option.greatest)) × AreWithin xs
 
-defaults_within : (xs : List Setting) → All IsDefault xs → AreWithin xs
+defaults_within : (xs : List OptionSetting) → All IsDefault xs → AreWithin xs
 defaults_within [] all = tt
 defaults_within (x ∷ xs) all = (inl (all 0 x (omega arith)), defaults_within xs (λ k d low. all (suc k) d (omega (arith, low))))
 
-one_within : {word : List ℕ} {xs left : List Setting} → GivesOne word xs left → AreWithin left → AreWithin xs
+one_within : {word : List ℕ} {xs left : List OptionSetting} → GivesOne word xs left → AreWithin left → AreWithin xs
 one_within (GivesOne.first g) h = (inr g.greatest, h)
 one_within (GivesOne.later g) h = (h.0, one_within g h.1)
 
-all_within : {words : List (List ℕ)} {xs : List Setting} → GiveAll words xs → AreWithin xs
+all_within : {words : List (List ℕ)} {xs : List OptionSetting} → GiveAll words xs → AreWithin xs
 all_within (GiveAll.none all) = defaults_within _ all
 all_within (GiveAll.word one more) = one_within one (all_within more)
 

@@ -4,7 +4,7 @@ use Rattle.std.specs.Prelude.{◌≡◌, ℕ, List, codes, None, Some}
 use Rattle.abc_base.specs.declared.formula.Formula.{Formula}
 use Rattle.abc_base.specs.declared.status.Status.TheVariants as status
 use Rattle.abc_verify.specs.Verified.{IsVerifiedOf}
-use Rattle.abc_cli_answers.specs.Answers.{Answer, Unverified, told}
+use Rattle.abc_cli_answers.specs.Answers.{Answer, Unverified, line_answer}
 use Rattle.abc_cli_answers.specs.Lines.{limit_text, no_export_text}
 use Rattle.abc_cli.specs.Meant.{IsMeant, limits_of}
 use Rattle.abc_heap_store.specs.declared.records.Limit.{Limit}
@@ -19,8 +19,8 @@ use Rattle.abc_cli_answers.specs.declared.command.CallsOptions.{CallsOptions}
 -- `calls` of a verified file: a limit is too small to open it; or it doesn't export `tick`, which is told before anything runs; or it
 -- runs, and its `tick` is called
 pub data IsCalled (o : CallsOptions) (p : Setting) (starts : List (List ℕ)) (a : Answer) : Type 0 where
-  unopened : (limit : Limit) → too_small (first_world p (limits_of o.run)).heap ≡ Some limit → a ≡ told status.Limit (limit_text limit) → IsCalled o p starts a
-  unexported : too_small (first_world p (limits_of o.run)).heap ≡ None → export p (codes "tick") ≡ None → a ≡ told status.Refused no_export_text → IsCalled o p starts a
+  unopened : (limit : Limit) → too_small (first_world p (limits_of o.run)).heap ≡ Some limit → a ≡ line_answer status.Limit (limit_text limit) → IsCalled o p starts a
+  unexported : too_small (first_world p (limits_of o.run)).heap ≡ None → export p (codes "tick") ≡ None → a ≡ line_answer status.Refused no_export_text → IsCalled o p starts a
   ran : (method : ℕ) → too_small (first_world p (limits_of o.run)).heap ≡ None → export p (codes "tick") ≡ Some method → IsMeant p.linked.file starts (calls_meaning p (limits_of o.run) o.run.fuel o.times method) a → IsCalled o p starts a
 
 -- `calls` of a file that was read so, with the formulas of a host: why it isn't verified, or else the above

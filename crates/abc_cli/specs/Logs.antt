@@ -9,17 +9,17 @@ use Rattle.abc_meaning.specs.Logs.{log}
 use Rattle.abc_meaning.specs.Meaning.{Meaning, Ran, TooSmall, meaning}
 use Rattle.abc_meaning.specs.Setting.{Setting}
 use Rattle.abc_link_names.specs.Linked.{LinkedFile}
-use Rattle.abc_replay.specs.Names.{reason_name}
-use Rattle.abc_replay.specs.Replays.{IsRefused, IsReplayed}
+use Rattle.abc_replay.specs.Names.{replay_reason_name}
+use Rattle.abc_replay.specs.Replays.{IsLogRefused, IsReplayed}
 use Rattle.abc_replay.specs.declared.error.ReplayError.{ReplayError}
 use Rattle.abc_replay.specs.declared.error.ReplayError.TheVariants as errors
 use Rattle.abc_file_types.specs.declared.tables.Abc.{Abc}
 use Rattle.abc_file_types.specs.Files.{file_bytes}
 use Rattle.abc_verify.specs.Verified.{IsVerifiedOf}
 use Rattle.abc_cli_answers.specs.declared.command.RunOptions.{RunOptions}
-use Rattle.abc_cli_answers.specs.Answers.{Answer, Unverified, given, told}
+use Rattle.abc_cli_answers.specs.Answers.{Answer, Unverified, bytes_answer, line_answer}
 use Rattle.abc_cli_answers.specs.Lines.{item_text, limit_text, no_memory_text, place_text, read_fault_text, untyped_text}
-use Rattle.abc_cli.specs.Meant.{IsEnded, ended, limits_of}
+use Rattle.abc_cli.specs.Meant.{IsEnded, bytes_and_line, limits_of}
 use Rattle.abc_cli_answers.specs.End.{Channel, GivesAll, GivesLine, Got}
 use Rattle.abc_cli.specs.Endings.{open_answer}
 use Rattle.abc_objects.specs.declared.error.OpenError.{OpenError}
@@ -37,7 +37,7 @@ whole_log p m fuel = front (file_bytes p.linked.file) fuel m ++ log p m fuel
 
 -- what is answered of a meaning where something else is written than its output
 abbrev pub IsLogged : Abc → (starts : List (List ℕ)) → (wrote : List ℕ) → Meaning → Answer → Type 0
-IsLogged v starts wrote (TooSmall limit) a = a ≡ ended status.Limit wrote (limit_text limit)
+IsLogged v starts wrote (TooSmall limit) a = a ≡ bytes_and_line status.Limit wrote (limit_text limit)
 IsLogged v starts wrote (Ran output end) a = IsEnded v starts wrote end a
 
 -- `log` of a file that was read so, with the formulas of a host: why it isn't verified, or else the status and the line of its run,
@@ -59,7 +59,7 @@ replayed_line n = codes "replayed " ++ decimal n ++ 10 ∷ []
 
 -- why an input is no log
 abbrev pub unreplayed_text : ReplayError → List ℕ
-unreplayed_text (errors.Refused place reason) = place_text (codes "byte") place (reason_name reason)
+unreplayed_text (errors.Refused place reason) = place_text (codes "byte") place (replay_reason_name reason)
 unreplayed_text (errors.Link rule i) = item_text i rule
 unreplayed_text (errors.Verify m offset rule) = untyped_text m offset rule
 unreplayed_text errors.ReadFault = read_fault_text
@@ -67,11 +67,11 @@ unreplayed_text errors.NoMemory = no_memory_text
 
 -- what is answered of it
 abbrev pub unreplayed_answer : ReplayError → Answer
-unreplayed_answer errors.ReadFault = told status.ReadFault read_fault_text
-unreplayed_answer errors.NoMemory = told status.NoMemory no_memory_text
-unreplayed_answer e = told status.Refused (unreplayed_text e)
+unreplayed_answer errors.ReadFault = line_answer status.ReadFault read_fault_text
+unreplayed_answer errors.NoMemory = line_answer status.NoMemory no_memory_text
+unreplayed_answer e = line_answer status.Refused (unreplayed_text e)
 
 -- `replay` of an input, with the formulas of a host: how many steps its log has, or why it is no log
 pub data Replay (formulas : List Formula) (input : List ℕ) (a : Answer) : Type 0 where
-  replayed : (n : ℕ) → IsReplayed formulas input n → a ≡ given (replayed_line n) → Replay formulas input a
-  refused : (e : ReplayError) → IsRefused formulas input e → a ≡ told status.Refused (unreplayed_text e) → Replay formulas input a
+  replayed : (n : ℕ) → IsReplayed formulas input n → a ≡ bytes_answer (replayed_line n) → Replay formulas input a
+  refused : (e : ReplayError) → IsLogRefused formulas input e → a ≡ line_answer status.Refused (unreplayed_text e) → Replay formulas input a

@@ -13,7 +13,7 @@ use Rattle.abc_file_types.specs.Files.{file_bytes}
 use Rattle.abc_file_types.specs.Part.{limit}
 use Rattle.abc_text_lines.specs.declared.reason.AsmReason.TheVariants as reasons
 use Rattle.abc_replay.specs.Prefaces.{TakesLog}
-use Rattle.abc_tidy_entries.specs.Rules.{IsFirstBroken as IsFirstUntidy, IsTidied}
+use Rattle.abc_tidy_entries.specs.Rules.{IsFirstTidyBroken as IsFirstUntidy, IsTidied}
 use Rattle.abc_tidy_entries.specs.declared.error.TidyRule.{TidyRule}
 use Rattle.abc_verify.specs.Verified.{IsVerifiedOf}
 use Rattle.abc_cli_answers.specs.Grammar.{IsUsageWord, Says}
@@ -21,26 +21,26 @@ use Rattle.abc_cli_answers.specs.declared.command.Command.{Command}
 use Rattle.abc_cli_answers.specs.declared.command.Command.TheVariants as commands
 use Rattle.abc_cli_answers.specs.declared.command.Usage.{Usage}
 use Rattle.abc_cli_answers.specs.declared.command.Usage.TheVariants as usages
-use Rattle.abc_cli_answers.specs.Answers.{On, Answer, OfFile, OfFileRead, Unverified, given, told}
+use Rattle.abc_cli_answers.specs.Answers.{On, Answer, OfFile, OfFileRead, Unverified, bytes_answer, line_answer}
 use Rattle.abc_cli_answers.specs.Lines.{fault_text, no_command_text, tidy_text, usage_text, verified_line}
 use Rattle.abc_cli.specs.Calls.{Calls}
 use Rattle.abc_cli.specs.Logs.{Log, Replay}
-use Rattle.abc_cli.specs.Runs.{Gen, Run}
+use Rattle.abc_cli.specs.Runs.{Gen, RunOfFile}
 
 -- ---- commands
 
 -- `canon` of a file: its canonical bytes
 abbrev pub Canon : Abc → Answer → Type 0
-Canon v a = a ≡ given (file_bytes v)
+Canon v a = a ≡ bytes_answer (file_bytes v)
 
 -- `dis` of a file: its one text
 abbrev pub Dis : Abc → Answer → Type 0
-Dis v a = a ≡ given (listing v)
+Dis v a = a ≡ bytes_answer (listing v)
 
 -- `check` of a file that was read so: why it isn't verified, or else the number of its bodies
 pub data Check (v : Abc) (starts : List (List ℕ)) (a : Answer) : Type 0 where
   unverified : Unverified v starts a → Check v starts a
-  verified : (l : LinkedFile) → IsVerifiedOf v l → a ≡ given (verified_line (length v.bodies)) → Check v starts a
+  verified : (l : LinkedFile) → IsVerifiedOf v l → a ≡ bytes_answer (verified_line (length v.bodies)) → Check v starts a
 
 -- how many bytes a text may have
 abbrev pub text_limit : ℕ
@@ -48,14 +48,14 @@ text_limit = 2 ^ 28
 
 -- `asm` of a text: the canonical bytes of the file that it is one of, or its first fault; one that is too long is refused at line 0
 pub data Asm (text : List ℕ) (a : Answer) : Type 0 where
-  assembled : (v : Abc) → length text ≤ text_limit → IsAssemblyOf text v → a ≡ given (file_bytes v) → Asm text a
-  refused : (f : Fault) → length text ≤ text_limit → IsAssemblyFault text f → a ≡ told status.Refused (fault_text f) → Asm text a
-  too_long : text_limit < length text → a ≡ told status.Refused (fault_text (fault 0 reasons.TextTooLong)) → Asm text a
+  assembled : (v : Abc) → length text ≤ text_limit → IsAssemblyOf text v → a ≡ bytes_answer (file_bytes v) → Asm text a
+  refused : (f : Fault) → length text ≤ text_limit → IsAssemblyFault text f → a ≡ line_answer status.Refused (fault_text f) → Asm text a
+  too_long : text_limit < length text → a ≡ line_answer status.Refused (fault_text (fault 0 reasons.TextTooLong)) → Asm text a
 
 -- `tidy` of a file: the canonical bytes of the tidied file, or the first broken rule of tidying at its least index
 pub data Tidy (v : Abc) (a : Answer) : Type 0 where
-  tidied : (t : Abc) → IsTidied v t → a ≡ given (file_bytes t) → Tidy v a
-  untidy : (rule : TidyRule) (i : ℕ) → IsFirstUntidy v rule i → a ≡ told status.Refused (tidy_text rule i) → Tidy v a
+  tidied : (t : Abc) → IsTidied v t → a ≡ bytes_answer (file_bytes t) → Tidy v a
+  untidy : (rule : TidyRule) (i : ℕ) → IsFirstUntidy v rule i → a ≡ line_answer status.Refused (tidy_text rule i) → Tidy v a
 
 -- a command on an input, with the formulas of a host
 abbrev pub OutcomeOf : List Formula → Command → List ℕ → Answer → Type 0
@@ -64,7 +64,7 @@ OutcomeOf formulas commands.Dis input a = OfFile Dis input a
 OutcomeOf formulas commands.Asm input a = Asm input a
 OutcomeOf formulas commands.Check input a = OfFileRead Check input a
 OutcomeOf formulas commands.Tidy input a = OfFile Tidy input a
-OutcomeOf formulas (commands.Run options) input a = OfFileRead (Run options formulas) input a
+OutcomeOf formulas (commands.Run options) input a = OfFileRead (RunOfFile options formulas) input a
 OutcomeOf formulas (commands.Gen options) input a = Gen options formulas a
 OutcomeOf formulas (commands.Calls options) input a = OfFileRead (Calls options formulas) input a
 OutcomeOf formulas (commands.Log options) input a = OfFileRead (Log options formulas) input a
@@ -96,8 +96,8 @@ TakesFor command old new = TakesAtMost old new (limit + 1)
 
 -- words outside the grammar, by the word at which they go wrong
 pub data UsageOutcome (words : List (List ℕ)) : Answer → Type 0 where
-  no_command : words ≡ [] → UsageOutcome words (told status.Usage no_command_text)
-  word : (i : ℕ) → IsUsageWord words i → UsageOutcome words (told status.Usage (usage_text (get_or words i [])))
+  no_command : words ≡ [] → UsageOutcome words (line_answer status.Usage no_command_text)
+  word : (i : ℕ) → IsUsageWord words i → UsageOutcome words (line_answer status.Usage (usage_text (get_or words i [])))
 
 -- the text of words outside the grammar, by how they go wrong
 abbrev pub text_of_usage : List (List ℕ) → Usage → List ℕ
@@ -105,7 +105,7 @@ text_of_usage words usages.NoCommand = no_command_text
 text_of_usage words (usages.Word i) = usage_text (get_or words i [])
 
 abbrev pub usage_answer : List (List ℕ) → Usage → Answer
-usage_answer words usage = told status.Usage (text_of_usage words usage)
+usage_answer words usage = line_answer status.Usage (text_of_usage words usage)
 
 abbrev pub IsUsage : List (List ℕ) → Usage → Type 0
 IsUsage words usages.NoCommand = words ≡ []

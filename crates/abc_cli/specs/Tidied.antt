@@ -4,7 +4,7 @@ use Rattle.abc_file.specs.Reading.{OfInput}
 use Rattle.abc_file_types.specs.Files.{IsFile}
 use Rattle.abc_file_types.specs.declared.tables.Abc.{Abc}
 use Rattle.abc_tidy.specs.Free.{HaveOneFree}
-use Rattle.abc_cli_answers.specs.Answers.{Answer, OfFile, given}
+use Rattle.abc_cli_answers.specs.Answers.{Answer, OfFile, bytes_answer}
 use Rattle.abc_cli_answers.specs.End.{Channel, Got}
 use Rattle.abc_cli.specs.Outcome.{Tidy}
 
@@ -13,7 +13,7 @@ pub record IsTidiedOf (bytes : List ℕ) (v : Abc) : Type 0 where
   pub value : Abc
   pub spelled : IsFile value bytes
   pub kept : HaveOneFree v value
-  pub again : (a : Answer) → OfFile Tidy bytes a → a ≡ given bytes
+  pub again : (a : Answer) → OfFile Tidy bytes a → a ≡ bytes_answer bytes
 
 -- The sink got such bytes for the file that the input spells.
 pub record IsMadeTidy (out : Channel) (input : List ℕ) : Type 0 where

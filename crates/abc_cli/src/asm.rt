@@ -1,9 +1,9 @@
 ghost use Rattle.std.specs.Prelude.{◌≤◌, ◌+◌, ◌^◌, IfErr, IfOk, length};
 ghost use Rattle.abc_base.specs.Taking.{TakesAtMost};
 ghost use Rattle.abc_cli_answers.specs.End.{stream};
-ghost use Rattle.abc_cli_answers.specs.Answers.{given};
+ghost use Rattle.abc_cli_answers.specs.Answers.{bytes_answer};
 ghost use Rattle.abc_cli.specs.Outcome.{Asm};
-ghost use Rattle.abc_cli_answers.specs.Stops.{Gives, Stops, StopsAt};
+ghost use Rattle.abc_cli_answers.specs.Stops.{GivesAllBytes, Stops, StopsAt};
 
 use abc_asm::assemble;
 use abc_base::{Source, read_input};
@@ -16,7 +16,7 @@ use std::mem::forget;
 /// The canonical bytes of the file that a text is one of.
 fn assembled(alloc: Global, text: &[u8]) -> Result<Vec<u8>, Stop>
     requires { length text.now ≤ 2 ^ 28 }
-    ensures gives { IfOk result (λ bytes. Asm text.now (given bytes.items)) }
+    ensures gives { IfOk result (λ bytes. Asm text.now (bytes_answer bytes.items)) }
     ensures stops { IfErr result (λ stop. StopsAt (Asm text.now) stop) }
 {
     // A law, which says that the file can be written.
@@ -31,7 +31,8 @@ fn assembled(alloc: Global, text: &[u8]) -> Result<Vec<u8>, Stop>
 
 /// What the command `asm` gives: the canonical bytes of the text's file. At most 2^28 + 1 bytes are read.
 pub fn asm<S: Source>(alloc: Global, source: &mut S) -> Result<Vec<u8>, Stop>
-    ensures gives { IfOk result (λ bytes. Gives Asm (stream S.left S.faults source.old source.new) bytes.items) }
+    ensures gives { IfOk result
+        (λ bytes. GivesAllBytes Asm (stream S.left S.faults source.old source.new) bytes.items) }
     ensures stops { IfErr result (λ stop. Stops Asm (stream S.left S.faults source.old source.new) stop) }
     ensures taken { TakesAtMost (S.left source.old) (S.left source.new) (2 ^ 28 + 1) }
 {

@@ -1,12 +1,12 @@
 ghost use Rattle.std.specs.Prelude.{◌≡◌, ◌+◌, ◌^◌, None};
 ghost use Rattle.abc_base.specs.Taking.{TakesAtMost};
 ghost use Rattle.abc_bodies.specs.Places.{ArePlaces};
-ghost use Rattle.abc_cli_answers.specs.Answers.{OfFileRead, On, told};
+ghost use Rattle.abc_cli_answers.specs.Answers.{OfFileRead, On, line_answer};
 ghost use Rattle.abc_cli.specs.Calls.{Calls, IsCalled};
 ghost use Rattle.abc_cli_answers.specs.End.{GivesLine, HasFailed, RunsTo, UsesUp, stream};
 ghost use Rattle.abc_cli_answers.specs.Lines.{no_export_text};
 ghost use Rattle.abc_cli.specs.Meant.{IsMeant, limits_of as limits_in};
-ghost use Rattle.abc_meaning.specs.ThrowLaws.{AreCounted, IsVerified};
+ghost use Rattle.abc_meaning.specs.ThrowLaws.{AreCounted, IsVerifiedSetting};
 ghost use Rattle.abc_meaning.specs.Meaning.{first_world, too_small};
 ghost use Rattle.abc_meaning.specs.Exports.{IsScriptMethod};
 ghost use Rattle.abc_machine.specs.Machines.{IsOpened};
@@ -27,7 +27,8 @@ use std::alloc::Global;
 /// Writes the line of a file that doesn't export the function that is called.
 #[tactic(auto, unfolding(abc_cli_answers::specs::Lines::no_export_text), using(abc_cli_answers::proofs::Ending::gives))]
 fn give_no_export<E: Sink>(err: &mut E) -> Status
-    ensures { GivesLine (stream E.written E.faults err.old err.new) (told Status.Refused no_export_text) result }
+    ensures { GivesLine (stream E.written E.faults err.old err.new)
+        (line_answer Status.Refused no_export_text) result }
 {
     let written = write_place(err, b"file", 0, b"NoExport");
     ended(written, Status::Refused)
@@ -36,11 +37,14 @@ fn give_no_export<E: Sink>(err: &mut E) -> Status
 /// How the run of this session and the calls after it end can be told.
 #[tactic(none)]
 fn calls_end_can_be_told<H: Host>(session: &Session, method: u32, fuel: u32, times: u32, host: &H)
-    requires verified { IsVerified (setting (session.now).linked (H.formulas host.now)) }
+    requires verified { IsVerifiedSetting (setting (session.now).linked (H.formulas host.now)) }
     requires counted { AreCounted (session.now).limits }
-    requires fits { too_small (first_world (setting (session.now).linked (H.formulas host.now)) (session.now).limits).heap ≡ None }
+    requires fits { too_small
+        (first_world (setting (session.now).linked (H.formulas host.now)) (session.now).limits).heap
+        ≡ None }
     requires method { IsScriptMethod (setting (session.now).linked (H.formulas host.now)) method }
-    ensures { CanBeTold (session.now).linked.file (calls_meaning (setting (session.now).linked (H.formulas host.now)) (session.now).limits fuel times method) }
+    ensures { CanBeTold (session.now).linked.file (calls_meaning
+        (setting (session.now).linked (H.formulas host.now)) (session.now).limits fuel times method) }
 {
     ticks_can_be_told();
 }
@@ -56,11 +60,14 @@ fn call_method<K: Sink, E: Sink, H: Host>(
     host: &H,
 ) -> Status
     requires opened { IsOpened session.old.linked (H.formulas host.now) session.old.limits session.old }
-    requires verified { IsVerified (setting session.old.linked (H.formulas host.now)) }
+    requires verified { IsVerifiedSetting (setting session.old.linked (H.formulas host.now)) }
     requires counted { AreCounted session.old.limits }
     requires places { ArePlaces session.old.linked.file.bodies places.now }
     requires method { IsScriptMethod (setting session.old.linked (H.formulas host.now)) method }
-    ensures { RunsTo (IsMeant session.old.linked.file places.now (calls_meaning (setting session.old.linked (H.formulas host.now)) session.old.limits (options.now).run.fuel (options.now).times method)) ⊥ (stream K.written K.faults out.old out.new) (stream E.written E.faults err.old err.new) result }
+    ensures { RunsTo (IsMeant session.old.linked.file places.now (calls_meaning
+        (setting session.old.linked (H.formulas host.now)) session.old.limits (options.now).run.fuel
+        (options.now).times method)) ⊥ (stream K.written K.faults out.old out.new)
+        (stream E.written E.faults err.old err.new) result }
 {
     let fuel = options.run.fuel;
     let times = options.times;
@@ -80,10 +87,11 @@ fn call_exported<K: Sink, E: Sink, H: Host>(
 ) -> Status
     requires opened { IsOpened session.old.linked (H.formulas host.now) session.old.limits session.old }
     requires limits { session.old.limits ≡ limits_in (options.now).run }
-    requires verified { IsVerified (setting session.old.linked (H.formulas host.now)) }
+    requires verified { IsVerifiedSetting (setting session.old.linked (H.formulas host.now)) }
     requires counted { AreCounted session.old.limits }
     requires places { ArePlaces session.old.linked.file.bodies places.now }
-    ensures { RunsTo (IsCalled options.now (setting session.old.linked (H.formulas host.now)) places.now) ⊥ (stream K.written K.faults out.old out.new) (stream E.written E.faults err.old err.new) result }
+    ensures { RunsTo (IsCalled options.now (setting session.old.linked (H.formulas host.now)) places.now) ⊥
+        (stream K.written K.faults out.old out.new) (stream E.written E.faults err.old err.new) result }
 {
     match session.export(b"tick") {
         Some(method) => call_method(session, method, places, options, out, err, host),
@@ -103,7 +111,8 @@ fn call_verified<K: Sink, E: Sink, H: Host>(
 ) -> Status
     requires verified { IsVerifiedOf verified.file verified }
     requires places { ArePlaces verified.file.bodies places.now }
-    ensures { RunsTo (IsCalled options.now (setting verified (H.formulas host.now)) places.now) ⊥ (stream K.written K.faults out.old out.new) (stream E.written E.faults err.old err.new) result }
+    ensures { RunsTo (IsCalled options.now (setting verified (H.formulas host.now)) places.now) ⊥
+        (stream K.written K.faults out.old out.new) (stream E.written E.faults err.old err.new) result }
 {
     let limits = limits_of(&options.run);
     match Session::open(alloc, verified, &limits, host) {
@@ -126,7 +135,9 @@ pub fn calls<S: Source, K: Sink, E: Sink, H: Host>(
     err: &mut E,
     host: &H,
 ) -> Status
-    ensures end { RunsTo (On (OfFileRead (Calls options.now (H.formulas host.now))) (S.left source.old)) (HasFailed (stream S.left S.faults source.old source.new)) (stream K.written K.faults out.old out.new) (stream E.written E.faults err.old err.new) result }
+    ensures end { RunsTo (On (OfFileRead (Calls options.now (H.formulas host.now))) (S.left source.old))
+        (HasFailed (stream S.left S.faults source.old source.new)) (stream K.written K.faults out.old out.new)
+        (stream E.written E.faults err.old err.new) result }
     ensures taken { TakesAtMost (S.left source.old) (S.left source.new) (2 ^ 24 + 1) }
     ensures used_up { UsesUp (stream S.left S.faults source.old source.new) result }
 {

@@ -4,7 +4,7 @@ ghost use Rattle.abc_cli_answers.specs.End.{stream};
 ghost use Rattle.abc_cli_answers.specs.Lines.{verified_line};
 ghost use Rattle.abc_cli_answers.specs.Answers.{OfFileRead};
 ghost use Rattle.abc_cli.specs.Outcome.{Check};
-ghost use Rattle.abc_cli_answers.specs.Stops.{Gives, Stops};
+ghost use Rattle.abc_cli_answers.specs.Stops.{GivesAllBytes, Stops};
 
 use abc_base::{NoMemory, Source};
 use abc_cli_answers::{Stop, numbered_line};
@@ -32,8 +32,10 @@ fn body_count(verified: &Verified) -> usize
 
 /// What the command `check` gives: how many bodies are verified.
 pub fn check<S: Source>(alloc: Global, source: &mut S) -> Result<Vec<u8>, Stop>
-    ensures gives { IfOk result (λ bytes. Gives (OfFileRead Check) (stream S.left S.faults source.old source.new) bytes.items) }
-    ensures stops { IfErr result (λ stop. Stops (OfFileRead Check) (stream S.left S.faults source.old source.new) stop) }
+    ensures gives { IfOk result (λ bytes. GivesAllBytes (OfFileRead Check)
+        (stream S.left S.faults source.old source.new) bytes.items) }
+    ensures stops { IfErr result
+        (λ stop. Stops (OfFileRead Check) (stream S.left S.faults source.old source.new) stop) }
     ensures taken { TakesAtMost (S.left source.old) (S.left source.new) (2 ^ 24 + 1) }
 {
     let (verified, _) = read_verified(alloc, source)?;

@@ -1,10 +1,10 @@
 ghost use Rattle.std.specs.Prelude.{◌≡◌};
 ghost use Rattle.abc_base.specs.Names.{fault_name};
-ghost use Rattle.abc_cli_answers.specs.Answers.{told};
+ghost use Rattle.abc_cli_answers.specs.Answers.{line_answer};
 ghost use Rattle.abc_cli_answers.specs.End.{GivesLine, stream};
-ghost use Rattle.abc_cli.specs.Endings.{HasPlace, IsPlacedEnd, end_answer, open_answer};
+ghost use Rattle.abc_cli.specs.Endings.{HasCodePlace, IsPlacedEnd, end_answer, open_answer};
 ghost use Rattle.abc_cli_answers.specs.Lines.{code_text, limit_text, uncaught_text};
-ghost use Rattle.abc_cli.specs.Meant.{place_of};
+ghost use Rattle.abc_cli.specs.Meant.{place_as_read};
 
 use abc_base::{Fault, Sink, Status};
 use abc_bodies::Places;
@@ -17,7 +17,8 @@ use abc_objects::OpenError;
 /// Writes the line of what nothing caught.
 #[tactic(auto, using(abc_cli_answers::proofs::Ending::gives))]
 fn give_uncaught<E: Sink>(err: &mut E, name: &[u8]) -> Status
-    ensures { GivesLine (stream E.written E.faults err.old err.new) (told Status.Uncaught (uncaught_text name.now)) result }
+    ensures { GivesLine (stream E.written E.faults err.old err.new)
+        (line_answer Status.Uncaught (uncaught_text name.now)) result }
 {
     let written = write_uncaught(err, name);
     ended(written, Status::Uncaught)
@@ -26,7 +27,8 @@ fn give_uncaught<E: Sink>(err: &mut E, name: &[u8]) -> Status
 /// Writes the line of a limit that is reached, or below what every run begins with.
 #[tactic(auto, using(abc_cli_answers::proofs::Ending::gives))]
 fn give_limit<E: Sink>(err: &mut E, limit: Limit) -> Status
-    ensures { GivesLine (stream E.written E.faults err.old err.new) (told Status.Limit (limit_text limit)) result }
+    ensures { GivesLine (stream E.written E.faults err.old err.new)
+        (line_answer Status.Limit (limit_text limit)) result }
 {
     let written = write_limit(err, limit);
     ended(written, Status::Limit)
@@ -45,8 +47,8 @@ pub fn give_unopened<E: Sink>(err: &mut E, e: OpenError) -> Status
 
 /// Where an instruction of a method began in its code as it was read.
 fn place(linked: &Linked, places: &Places, method: u32, index: u32) -> u32
-    requires { HasPlace linked.now.file places.now method index }
-    ensures { result ≡ place_of linked.now.file places.now method index }
+    requires { HasCodePlace linked.now.file places.now method index }
+    ensures { result ≡ place_as_read linked.now.file places.now method index }
 {
     let body = linked.body_of(method).unwrap_or(0);
     places.offset(body, index)
@@ -55,7 +57,8 @@ fn place(linked: &Linked, places: &Places, method: u32, index: u32) -> u32
 /// Writes the line of what the profile leaves out, at an offset in the code of a method.
 #[tactic(auto, using(abc_cli_answers::proofs::Ending::gives))]
 fn give_fault<E: Sink>(err: &mut E, method: u32, offset: u32, fault: Fault) -> Status
-    ensures { GivesLine (stream E.written E.faults err.old err.new) (told Status.Profile (code_text method offset (fault_name fault))) result }
+    ensures { GivesLine (stream E.written E.faults err.old err.new)
+        (line_answer Status.Profile (code_text method offset (fault_name fault))) result }
 {
     let written = write_code(err, method, offset, fault.name());
     ended(written, Status::Profile)
@@ -65,7 +68,8 @@ fn give_fault<E: Sink>(err: &mut E, method: u32, offset: u32, fault: Fault) -> S
 #[tactic(auto, unfolding(abc_cli_answers::specs::Lines::fuel_spent_text, abc_cli_answers::specs::Lines::write_fault_text))]
 pub fn give_end<E: Sink>(err: &mut E, linked: &Linked, places: &Places, end: &End) -> Status
     requires { IsPlacedEnd linked.now.file places.now end.now }
-    ensures line { GivesLine (stream E.written E.faults err.old err.new) (end_answer linked.now.file places.now end.now) result }
+    ensures line { GivesLine (stream E.written E.faults err.old err.new)
+        (end_answer linked.now.file places.now end.now) result }
     ensures done { end.now ≡ End.Done → (result ≡ Status.Done) × (err.new ≡ err.old) }
 {
     match end {

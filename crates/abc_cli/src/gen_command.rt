@@ -2,9 +2,9 @@ ghost use Rattle.std.specs.Prelude.{◌≡◌, ◌≤◌};
 ghost use Rattle.abc_cli_answers.specs.Answers.{OfFileRead};
 ghost use Rattle.abc_cli_answers.specs.End.{IsEnd, RunsTo, stream};
 ghost use Rattle.abc_bodies.specs.Places.{ArePlaces};
-ghost use Rattle.abc_cli.specs.Runs.{Gen, Run, default_options};
-ghost use Rattle.abc_cli_answers.specs.Generated.{generated};
-ghost use Rattle.abc_cli_answers.specs.Measured.{measured};
+ghost use Rattle.abc_cli.specs.Runs.{Gen, RunOfFile, default_options};
+ghost use Rattle.abc_cli_answers.specs.Generated.{generated_file};
+ghost use Rattle.abc_cli_answers.specs.Measured.{size_lines};
 ghost use Rattle.abc_cli_answers.specs.Placed.{IsReadAgain};
 ghost use Rattle.abc_file_types.specs.Files.{file_bytes};
 
@@ -38,7 +38,8 @@ fn run_file<K: Sink, E: Sink, H: Host>(
 ) -> Status
     requires read { IsReadAgain file places.now }
     requires places { ArePlaces file.bodies places.now }
-    ensures end { RunsTo (OfFileRead (Run default_options (H.formulas host.now)) (file_bytes file)) ⊥ (stream K.written K.faults out.old out.new) (stream E.written E.faults err.old err.new) result }
+    ensures end { RunsTo (OfFileRead (RunOfFile default_options (H.formulas host.now)) (file_bytes file)) ⊥
+        (stream K.written K.faults out.old out.new) (stream E.written E.faults err.old err.new) result }
     ensures later { K.faults out.old ≤ K.faults out.new }
     ensures quiet { result ≡ Status.Done → err.new ≡ err.old }
 {
@@ -57,11 +58,13 @@ fn run_made<K: Sink, E: Sink, H: Host>(
     err: &mut E,
     host: &H,
 ) -> Status
-    requires file { made.file ≡ generated (options.now).seed (options.now).methods }
+    requires file { made.file ≡ generated_file (options.now).seed (options.now).methods }
     requires read { IsReadAgain made.file made.notes.places }
     requires places { ArePlaces made.file.bodies made.notes.places }
-    requires lines { made.notes.lines.items ≡ measured (generated (options.now).seed (options.now).methods) }
-    ensures { IsEnd (Gen options.now (H.formulas host.now)) ⊥ (stream K.written K.faults out.old out.new) (stream E.written E.faults err.old err.new) result }
+    requires lines { made.notes.lines.items
+        ≡ size_lines (generated_file (options.now).seed (options.now).methods) }
+    ensures { IsEnd (Gen options.now (H.formulas host.now)) ⊥ (stream K.written K.faults out.old out.new)
+        (stream E.written E.faults err.old err.new) result }
 {
     let Made { file, notes } = made;
     match run_file(alloc, file, &notes.places, out, err, host) {
@@ -79,7 +82,8 @@ pub fn generate<K: Sink, E: Sink, H: Host>(
     host: &H,
 ) -> Status
     requires { (options.now).methods ≤ 10000 }
-    ensures { IsEnd (Gen options.now (H.formulas host.now)) ⊥ (stream K.written K.faults out.old out.new) (stream E.written E.faults err.old err.new) result }
+    ensures { IsEnd (Gen options.now (H.formulas host.now)) ⊥ (stream K.written K.faults out.old out.new)
+        (stream E.written E.faults err.old err.new) result }
 {
     match make(alloc, options.seed, options.methods) {
         Ok(made) => run_made(alloc, made, options, out, err, host),

@@ -4,14 +4,14 @@ ghost use Rattle.abc_base.specs.Faults.{HasCause};
 ghost use Rattle.abc_base.specs.Sinks.{WritesAll};
 ghost use Rattle.abc_bodies.specs.Places.{ArePlaces};
 ghost use Rattle.abc_cli_answers.specs.Answers.{OfFileRead, On};
-ghost use Rattle.abc_cli_answers.specs.End.{GivesAll, HasFailed, IsRead, RunsTo, UsesUp, stream};
+ghost use Rattle.abc_cli_answers.specs.End.{GivesAll, HasFailed, IsRunStatus, RunsTo, UsesUp, stream};
 ghost use Rattle.abc_cli.specs.Logs.{GivesUnopened, IsLogged, Log, front as front_of_log, whole_log};
 ghost use Rattle.abc_cli.specs.Endings.{open_answer};
 ghost use Rattle.abc_cli.specs.Logged.{GotLog};
 ghost use Rattle.abc_cli.specs.Meant.{limits_of as limits_in};
 ghost use Rattle.abc_log.specs.Lines.{AreLimits, limit_end};
 ghost use Rattle.abc_meaning.specs.Logs.{log as log_of_run};
-ghost use Rattle.abc_meaning.specs.ThrowLaws.{AreCounted, IsVerified};
+ghost use Rattle.abc_meaning.specs.ThrowLaws.{AreCounted, IsVerifiedSetting};
 ghost use Rattle.abc_meaning.specs.Meaning.{meaning};
 ghost use Rattle.abc_objects.specs.Opening.{formula_names};
 ghost use Rattle.abc_file_types.specs.Files.{file_bytes};
@@ -64,7 +64,8 @@ fn front_of(alloc: Global, verified: &Verified, options: &RunOptions) -> Result<
 #[tactic(auto, using(abc_base::proofs::Writing::writing))]
 fn write_front<K: Sink>(out: &mut K, front: &Front) -> Result<(), Failed>
     requires { length (front.now).file.items ≤ 2 ^ 24 }
-    ensures bytes { WritesAll (K.written out.old) (K.written out.new) result (front_of_log (front.now).file.items (front.now).fuel (front.now).limits) }
+    ensures bytes { WritesAll (K.written out.old) (K.written out.new) result
+        (front_of_log (front.now).file.items (front.now).fuel (front.now).limits) }
     ensures cause { HasCause (K.faults out.old) (K.faults out.new) result }
 {
     let file = front.file.as_slice();
@@ -77,7 +78,8 @@ fn write_front<K: Sink>(out: &mut K, front: &Front) -> Result<(), Failed>
 #[tactic(auto, using(abc_base::proofs::Writing::writing))]
 fn write_unbegun<K: Sink>(out: &mut K, front: &Front, limit: Limit) -> Result<(), Failed>
     requires { length (front.now).file.items ≤ 2 ^ 24 }
-    ensures bytes { WritesAll (K.written out.old) (K.written out.new) result (front_of_log (front.now).file.items (front.now).fuel (front.now).limits ++ limit_end limit) }
+    ensures bytes { WritesAll (K.written out.old) (K.written out.new) result
+        (front_of_log (front.now).file.items (front.now).fuel (front.now).limits ++ limit_end limit) }
     ensures cause { HasCause (K.faults out.old) (K.faults out.new) result }
 {
     write_front(out, front)?;
@@ -87,7 +89,9 @@ fn write_unbegun<K: Sink>(out: &mut K, front: &Front, limit: Limit) -> Result<()
 /// Gives the log of a run that is not begun, and writes the line of the limit.
 fn log_unbegun<K: Sink, E: Sink>(front: &Front, limit: Limit, out: &mut K, err: &mut E) -> Status
     requires { length (front.now).file.items ≤ 2 ^ 24 }
-    ensures { GivesAll (stream K.written K.faults out.old out.new) (stream E.written E.faults err.old err.new) (front_of_log (front.now).file.items (front.now).fuel (front.now).limits ++ limit_end limit) (open_answer (OpenError.TooSmall limit)) result }
+    ensures { GivesAll (stream K.written K.faults out.old out.new) (stream E.written E.faults err.old err.new)
+        (front_of_log (front.now).file.items (front.now).fuel (front.now).limits ++ limit_end limit)
+        (open_answer (OpenError.TooSmall limit)) result }
 {
     match write_unbegun(out, front, limit) {
         Ok(()) => give_unopened(err, OpenError::TooSmall(limit)),
@@ -98,7 +102,9 @@ fn log_unbegun<K: Sink, E: Sink>(front: &Front, limit: Limit, out: &mut K, err: 
 /// Gives what there is to log where no machine is opened, and writes the line that says why.
 fn log_unopened<K: Sink, E: Sink>(front: &Front, e: OpenError, out: &mut K, err: &mut E) -> Status
     requires { length (front.now).file.items ≤ 2 ^ 24 }
-    ensures { GivesUnopened (stream K.written K.faults out.old out.new) (stream E.written E.faults err.old err.new) (front_of_log (front.now).file.items (front.now).fuel (front.now).limits) e result }
+    ensures { GivesUnopened (stream K.written K.faults out.old out.new)
+        (stream E.written E.faults err.old err.new)
+        (front_of_log (front.now).file.items (front.now).fuel (front.now).limits) e result }
 {
     match e {
         OpenError::TooSmall(limit) => log_unbegun(front, limit, out, err),
@@ -117,11 +123,16 @@ fn log_machine<K: Sink, E: Sink, H: Host>(
 ) -> Status
     requires begun { machine.old.ended ≡ None }
     requires names { formula_names (H.formulas host.now) ≡ machine.old.names }
-    requires verified { IsVerified (setting machine.old.linked (H.formulas host.now)) }
+    requires verified { IsVerifiedSetting (setting machine.old.linked (H.formulas host.now)) }
     requires counted { AreCounted machine.old.limits }
     requires places { ArePlaces machine.old.linked.file.bodies places.now }
     requires short { length (front.now).file.items ≤ 2 ^ 24 }
-    ensures { RunsTo (IsLogged machine.old.linked.file places.now (front_of_log (front.now).file.items (front.now).fuel (front.now).limits ++ log_of_run (setting machine.old.linked (H.formulas host.now)) machine.old.limits (front.now).fuel) (meaning (setting machine.old.linked (H.formulas host.now)) machine.old.limits (front.now).fuel)) ⊥ (stream K.written K.faults out.old out.new) (stream E.written E.faults err.old err.new) result }
+    ensures { RunsTo (IsLogged machine.old.linked.file places.now (front_of_log (front.now).file.items
+        (front.now).fuel (front.now).limits
+        ++ log_of_run (setting machine.old.linked (H.formulas host.now)) machine.old.limits
+        (front.now).fuel)
+        (meaning (setting machine.old.linked (H.formulas host.now)) machine.old.limits (front.now).fuel))
+        ⊥ (stream K.written K.faults out.old out.new) (stream E.written E.faults err.old err.new) result }
 {
     let fuel = front.fuel;
     end_can_be_told(machine, fuel, host);
@@ -148,7 +159,11 @@ fn log_verified<K: Sink, E: Sink, H: Host>(
     requires places { ArePlaces verified.file.bodies places.now }
     requires short { length (front.now).file.items ≤ 2 ^ 24 }
     requires counted { AreCounted (front.now).limits }
-    ensures { RunsTo (IsLogged verified.file places.now (front_of_log (front.now).file.items (front.now).fuel (front.now).limits ++ log_of_run (setting verified (H.formulas host.now)) (front.now).limits (front.now).fuel) (meaning (setting verified (H.formulas host.now)) (front.now).limits (front.now).fuel)) ⊥ (stream K.written K.faults out.old out.new) (stream E.written E.faults err.old err.new) result }
+    ensures { RunsTo (IsLogged verified.file places.now (front_of_log (front.now).file.items (front.now).fuel
+        (front.now).limits
+        ++ log_of_run (setting verified (H.formulas host.now)) (front.now).limits (front.now).fuel)
+        (meaning (setting verified (H.formulas host.now)) (front.now).limits (front.now).fuel)) ⊥
+        (stream K.written K.faults out.old out.new) (stream E.written E.faults err.old err.new) result }
 {
     too_small_is_one_line();
     match Machine::open(alloc, verified, &front.limits, host) {
@@ -173,7 +188,10 @@ fn log_file<K: Sink, E: Sink, H: Host>(
 ) -> Status
     requires verified { IsVerifiedOf verified.file verified }
     requires places { ArePlaces verified.file.bodies places.now }
-    ensures { RunsTo (IsLogged verified.file places.now (whole_log (setting verified (H.formulas host.now)) (limits_in options.now) (options.now).fuel) (meaning (setting verified (H.formulas host.now)) (limits_in options.now) (options.now).fuel)) ⊥ (stream K.written K.faults out.old out.new) (stream E.written E.faults err.old err.new) result }
+    ensures { RunsTo (IsLogged verified.file places.now
+        (whole_log (setting verified (H.formulas host.now)) (limits_in options.now) (options.now).fuel)
+        (meaning (setting verified (H.formulas host.now)) (limits_in options.now) (options.now).fuel)) ⊥
+        (stream K.written K.faults out.old out.new) (stream E.written E.faults err.old err.new) result }
 {
     match front_of(alloc, &verified, options) {
         Ok(front) => log_verified(alloc, verified, &front, places, out, err, host),
@@ -193,10 +211,13 @@ pub fn log<S: Source, K: Sink, E: Sink, H: Host>(
     err: &mut E,
     host: &H,
 ) -> Status
-    ensures end { RunsTo (On (OfFileRead (Log options.now (H.formulas host.now))) (S.left source.old)) (HasFailed (stream S.left S.faults source.old source.new)) (stream K.written K.faults out.old out.new) (stream E.written E.faults err.old err.new) result }
+    ensures end { RunsTo (On (OfFileRead (Log options.now (H.formulas host.now))) (S.left source.old))
+        (HasFailed (stream S.left S.faults source.old source.new)) (stream K.written K.faults out.old out.new)
+        (stream E.written E.faults err.old err.new) result }
     ensures taken { TakesAtMost (S.left source.old) (S.left source.new) (2 ^ 24 + 1) }
     ensures used_up { UsesUp (stream S.left S.faults source.old source.new) result }
-    ensures logged { AreLimits (options.now).fuel (limits_in options.now) → IsRead result → GotLog (H.formulas host.now) (stream K.written K.faults out.old out.new) }
+    ensures logged { AreLimits (options.now).fuel (limits_in options.now) → IsRunStatus result
+        → GotLog (H.formulas host.now) (stream K.written K.faults out.old out.new) }
 {
     one_replay();
     match read_verified(alloc, source) {

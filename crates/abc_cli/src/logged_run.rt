@@ -2,7 +2,7 @@ ghost use Rattle.std.specs.Prelude.{◌≡◌, ◌≤◌, ◌⊎◌, None};
 ghost use Rattle.std.specs.Io.KnownBytes.{Keeps};
 ghost use Rattle.abc_base.specs.Faults.{Rose};
 ghost use Rattle.abc_cli.specs.LoggedRuns.{EndsBlocks};
-ghost use Rattle.abc_log_blocks.specs.BlockSinks.{faults_of, waiting_of, written_of};
+ghost use Rattle.abc_log_blocks.specs.BlockSinks.{sink_faults, waiting_of, written_of};
 ghost use Rattle.abc_machine.specs.Ended.{HasRun};
 ghost use Rattle.abc_machine.specs.Logged.{LogsRun};
 ghost use Rattle.abc_meaning.specs.Logs.{log as log_of_run};
@@ -19,8 +19,9 @@ use std::marker::Brand;
 fn hand_on_last<'a, K: Sink, N: SinkLoan>(blocks: &mut BlockSink<'a, K, N>, end: End) -> End
     ensures bytes { Keeps (written_of blocks.old) (written_of blocks.new) }
     ensures ends { EndsBlocks end result (waiting_of blocks.new) }
-    ensures later { faults_of blocks.old ≤ faults_of blocks.new }
-    ensures cause { result ≡ End.WriteFault → (end ≡ End.WriteFault) ⊎ Rose (faults_of blocks.old) (faults_of blocks.new) }
+    ensures later { sink_faults blocks.old ≤ sink_faults blocks.new }
+    ensures cause { result ≡ End.WriteFault
+        → (end ≡ End.WriteFault) ⊎ Rose (sink_faults blocks.old) (sink_faults blocks.new) }
 {
     match end {
         End::WriteFault => End::WriteFault,
@@ -42,7 +43,10 @@ fn run_lent<'a, K: Sink, H: Host, N: SinkLoan>(
     requires names { formula_names (H.formulas host.now) ≡ machine.old.names }
     requires name { out.ghost_name ≡ N.name }
     requires before { K.written out.old ≡ N.before }
-    ensures logs { LogsRun (log_of_run (setting machine.old.linked (H.formulas host.now)) machine.old.limits fuel) (meaning (setting machine.old.linked (H.formulas host.now)) machine.old.limits fuel) (K.written out.old) (K.written result.0.now) result.1 }
+    ensures logs { LogsRun
+        (log_of_run (setting machine.old.linked (H.formulas host.now)) machine.old.limits fuel)
+        (meaning (setting machine.old.linked (H.formulas host.now)) machine.old.limits fuel)
+        (K.written out.old) (K.written result.0.now) result.1 }
     ensures cause { HasRun (K.faults out.old) (K.faults result.0.now) result.1 }
     ensures linked { machine.new.linked ≡ machine.old.linked }
     ensures same { result.0.ghost_name ≡ out.entry.ghost_name }
@@ -63,7 +67,10 @@ pub(crate) fn run_in_blocks<K: Sink, H: Host>(
 ) -> End
     requires begun { machine.old.ended ≡ None }
     requires names { formula_names (H.formulas host.now) ≡ machine.old.names }
-    ensures logs { LogsRun (log_of_run (setting machine.old.linked (H.formulas host.now)) machine.old.limits fuel) (meaning (setting machine.old.linked (H.formulas host.now)) machine.old.limits fuel) (K.written out.old) (K.written out.new) result }
+    ensures logs { LogsRun
+        (log_of_run (setting machine.old.linked (H.formulas host.now)) machine.old.limits fuel)
+        (meaning (setting machine.old.linked (H.formulas host.now)) machine.old.limits fuel)
+        (K.written out.old) (K.written out.new) result }
     ensures cause { HasRun (K.faults out.old) (K.faults out.new) result }
     ensures linked { machine.new.linked ≡ machine.old.linked }
 {

@@ -1,6 +1,6 @@
 ghost use Rattle.std.specs.Prelude.{◌≡◌, ◌<◌, ◌^◌};
 ghost use Rattle.abc_cli.specs.Meant.{limits_of as limits_in};
-ghost use Rattle.abc_meaning.specs.ThrowLaws.{AreCounted, IsVerified};
+ghost use Rattle.abc_meaning.specs.ThrowLaws.{AreCounted, IsVerifiedSetting};
 ghost use Rattle.abc_meaning.specs.Meaning.{meaning};
 ghost use Rattle.abc_meaning.specs.Openings.{setting};
 ghost use Rattle.abc_meaning.specs.Told.{CanBeTold};
@@ -39,9 +39,10 @@ pub fn limits_of(options: &RunOptions) -> Limits
 /// How a run of this machine ends can be told.
 #[tactic(none)]
 pub fn end_can_be_told<H: Host>(machine: &Machine, fuel: u32, host: &H)
-    requires verified { IsVerified (setting (machine.now).linked (H.formulas host.now)) }
+    requires verified { IsVerifiedSetting (setting (machine.now).linked (H.formulas host.now)) }
     requires counted { AreCounted (machine.now).limits }
-    ensures { CanBeTold (machine.now).linked.file (meaning (setting (machine.now).linked (H.formulas host.now)) (machine.now).limits fuel) }
+    ensures { CanBeTold (machine.now).linked.file
+        (meaning (setting (machine.now).linked (H.formulas host.now)) (machine.now).limits fuel) }
 {
     ends_can_be_told();
 }

@@ -1,7 +1,7 @@
 ghost use Rattle.std.specs.Prelude.{◌∷◌, ◌++◌, []};
 ghost use Rattle.abc_base.specs.Faults.{HasCause};
 ghost use Rattle.abc_base.specs.Sinks.{WritesAll};
-ghost use Rattle.abc_cli_answers.specs.Answers.{On, told};
+ghost use Rattle.abc_cli_answers.specs.Answers.{On, line_answer};
 ghost use Rattle.abc_cli_answers.specs.End.{Ends, GivesBytes, GivesLine, UsesUp, stream};
 ghost use Rattle.abc_cli.specs.Logs.{Replay, replayed_line, unreplayed_answer, unreplayed_text};
 ghost use Rattle.abc_replay.specs.Prefaces.{TakesLog};
@@ -16,7 +16,8 @@ use std::alloc::Global;
 /// Writes a line of a word, its blank, and a number, which is given by its digits.
 #[tactic(auto, using(abc_base::proofs::Writing::writing))]
 fn write_numbered<K: Sink>(out: &mut K, word: &[u8], digits: &[u8]) -> Result<(), Failed>
-    ensures bytes { WritesAll (K.written out.old) (K.written out.new) result (word.now ++ digits.now ++ 10 ∷ []) }
+    ensures bytes { WritesAll (K.written out.old) (K.written out.new) result
+        (word.now ++ digits.now ++ 10 ∷ []) }
     ensures cause { HasCause (K.faults out.old) (K.faults out.new) result }
 {
     write_all(out, word)?;
@@ -38,7 +39,8 @@ fn write_replayed<K: Sink>(out: &mut K, steps: u64) -> Result<(), Failed>
 /// Gives the number of steps of a log, or where that can't be written the line that says so. It takes no memory.
 #[tactic(auto, unfolding(abc_cli_answers::specs::Lines::write_fault_text))]
 fn give_replayed<K: Sink, E: Sink>(steps: u64, out: &mut K, err: &mut E) -> Status
-    ensures { GivesBytes (stream K.written K.faults out.old out.new) (stream E.written E.faults err.old err.new) (replayed_line steps) result }
+    ensures { GivesBytes (stream K.written K.faults out.old out.new)
+        (stream E.written E.faults err.old err.new) (replayed_line steps) result }
 {
     match write_replayed(out, steps) {
         Ok(()) => Status::Done,
@@ -49,7 +51,8 @@ fn give_replayed<K: Sink, E: Sink>(steps: u64, out: &mut K, err: &mut E) -> Stat
 /// Writes the line of a place of the input, and of what is wrong there.
 #[tactic(auto, using(abc_cli_answers::proofs::Ending::gives))]
 fn give_refused<E: Sink>(err: &mut E, place: u64, reason: ReplayReason) -> Status
-    ensures { GivesLine (stream E.written E.faults err.old err.new) (told Status.Refused (unreplayed_text (ReplayError.Refused place reason))) result }
+    ensures { GivesLine (stream E.written E.faults err.old err.new)
+        (line_answer Status.Refused (unreplayed_text (ReplayError.Refused place reason))) result }
 {
     let written = write_place(err, b"byte", place, reason.name());
     ended(written, Status::Refused)
@@ -88,7 +91,8 @@ pub fn replay<S: Source, K: Sink, E: Sink, H: Host>(
     err: &mut E,
     host: &H,
 ) -> Status
-    ensures end { Ends (On (Replay (H.formulas host.now))) (stream S.left S.faults source.old source.new) (stream K.written K.faults out.old out.new) (stream E.written E.faults err.old err.new) result }
+    ensures end { Ends (On (Replay (H.formulas host.now))) (stream S.left S.faults source.old source.new)
+        (stream K.written K.faults out.old out.new) (stream E.written E.faults err.old err.new) result }
     ensures used_up { UsesUp (stream S.left S.faults source.old source.new) result }
     ensures taken { TakesLog (S.left source.old) (S.left source.new) }
 {

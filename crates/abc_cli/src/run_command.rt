@@ -4,8 +4,8 @@ ghost use Rattle.abc_bodies.specs.Places.{ArePlaces};
 ghost use Rattle.abc_cli_answers.specs.Answers.{OfFileRead, On};
 ghost use Rattle.abc_cli_answers.specs.End.{HasFailed, RunsTo, UsesUp, stream};
 ghost use Rattle.abc_cli.specs.Meant.{IsMeant, limits_of as limits_in};
-ghost use Rattle.abc_cli.specs.Runs.{Run};
-ghost use Rattle.abc_meaning.specs.ThrowLaws.{AreCounted, IsVerified};
+ghost use Rattle.abc_cli.specs.Runs.{RunOfFile};
+ghost use Rattle.abc_meaning.specs.ThrowLaws.{AreCounted, IsVerifiedSetting};
 ghost use Rattle.abc_meaning.specs.Meaning.{meaning};
 ghost use Rattle.abc_objects.specs.Opening.{formula_names};
 ghost use Rattle.abc_meaning.specs.Openings.{setting};
@@ -31,10 +31,12 @@ fn run_machine<K: Sink, E: Sink, H: Host>(
 ) -> Status
     requires begun { machine.old.ended ≡ None }
     requires names { formula_names (H.formulas host.now) ≡ machine.old.names }
-    requires verified { IsVerified (setting machine.old.linked (H.formulas host.now)) }
+    requires verified { IsVerifiedSetting (setting machine.old.linked (H.formulas host.now)) }
     requires counted { AreCounted machine.old.limits }
     requires places { ArePlaces machine.old.linked.file.bodies places.now }
-    ensures end { RunsTo (IsMeant machine.old.linked.file places.now (meaning (setting machine.old.linked (H.formulas host.now)) machine.old.limits fuel)) ⊥ (stream K.written K.faults out.old out.new) (stream E.written E.faults err.old err.new) result }
+    ensures end { RunsTo (IsMeant machine.old.linked.file places.now
+        (meaning (setting machine.old.linked (H.formulas host.now)) machine.old.limits fuel)) ⊥
+        (stream K.written K.faults out.old out.new) (stream E.written E.faults err.old err.new) result }
     ensures later { K.faults out.old ≤ K.faults out.new }
     ensures quiet { result ≡ Status.Done → err.new ≡ err.old }
 {
@@ -55,7 +57,9 @@ pub(crate) fn run_verified<K: Sink, E: Sink, H: Host>(
 ) -> Status
     requires verified { IsVerifiedOf verified.file verified }
     requires places { ArePlaces verified.file.bodies places.now }
-    ensures end { RunsTo (IsMeant verified.file places.now (meaning (setting verified (H.formulas host.now)) (limits_in options.now) (options.now).fuel)) ⊥ (stream K.written K.faults out.old out.new) (stream E.written E.faults err.old err.new) result }
+    ensures end { RunsTo (IsMeant verified.file places.now
+        (meaning (setting verified (H.formulas host.now)) (limits_in options.now) (options.now).fuel)) ⊥
+        (stream K.written K.faults out.old out.new) (stream E.written E.faults err.old err.new) result }
     ensures later { K.faults out.old ≤ K.faults out.new }
     ensures quiet { result ≡ Status.Done → err.new ≡ err.old }
 {
@@ -79,7 +83,9 @@ pub fn run<S: Source, K: Sink, E: Sink, H: Host>(
     err: &mut E,
     host: &H,
 ) -> Status
-    ensures end { RunsTo (On (OfFileRead (Run options.now (H.formulas host.now))) (S.left source.old)) (HasFailed (stream S.left S.faults source.old source.new)) (stream K.written K.faults out.old out.new) (stream E.written E.faults err.old err.new) result }
+    ensures end { RunsTo (On (OfFileRead (RunOfFile options.now (H.formulas host.now))) (S.left source.old))
+        (HasFailed (stream S.left S.faults source.old source.new)) (stream K.written K.faults out.old out.new)
+        (stream E.written E.faults err.old err.new) result }
     ensures taken { TakesAtMost (S.left source.old) (S.left source.new) (2 ^ 24 + 1) }
     ensures used_up { UsesUp (stream S.left S.faults source.old source.new) result }
     ensures later { K.faults out.old ≤ K.faults out.new }

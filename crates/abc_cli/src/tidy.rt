@@ -1,9 +1,9 @@
 ghost use Rattle.std.specs.Prelude.{◌+◌, ◌^◌, IfErr, IfOk};
 ghost use Rattle.abc_base.specs.Taking.{TakesAtMost};
 ghost use Rattle.abc_cli_answers.specs.End.{stream};
-ghost use Rattle.abc_cli_answers.specs.Answers.{OfFile, given};
+ghost use Rattle.abc_cli_answers.specs.Answers.{OfFile, bytes_answer};
 ghost use Rattle.abc_cli.specs.Outcome.{Tidy};
-ghost use Rattle.abc_cli_answers.specs.Stops.{Gives, Stops, StopsAt};
+ghost use Rattle.abc_cli_answers.specs.Stops.{GivesAllBytes, Stops, StopsAt};
 
 use abc_base::Source;
 use abc_cli_answers::Stop;
@@ -15,7 +15,7 @@ use std::mem;
 
 /// The canonical bytes of the tidied file.
 fn tidied(alloc: Global, abc: Abc) -> Result<Vec<u8>, Stop>
-    ensures gives { IfOk result (λ bytes. Tidy abc (given bytes.items)) }
+    ensures gives { IfOk result (λ bytes. Tidy abc (bytes_answer bytes.items)) }
     ensures stops { IfErr result (λ stop. StopsAt (Tidy abc) stop) }
 {
     let tidied = tidy_owned(alloc, abc)?;
@@ -28,8 +28,10 @@ fn tidied(alloc: Global, abc: Abc) -> Result<Vec<u8>, Stop>
 
 /// What the command `tidy` gives: the canonical bytes of the tidied file.
 pub fn tidy<S: Source>(alloc: Global, source: &mut S) -> Result<Vec<u8>, Stop>
-    ensures gives { IfOk result (λ bytes. Gives (OfFile Tidy) (stream S.left S.faults source.old source.new) bytes.items) }
-    ensures stops { IfErr result (λ stop. Stops (OfFile Tidy) (stream S.left S.faults source.old source.new) stop) }
+    ensures gives { IfOk result
+        (λ bytes. GivesAllBytes (OfFile Tidy) (stream S.left S.faults source.old source.new) bytes.items) }
+    ensures stops { IfErr result
+        (λ stop. Stops (OfFile Tidy) (stream S.left S.faults source.old source.new) stop) }
     ensures taken { TakesAtMost (S.left source.old) (S.left source.new) (2 ^ 24 + 1) }
 {
     let abc = read_alone(alloc, source)?;

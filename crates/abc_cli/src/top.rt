@@ -2,7 +2,7 @@ ghost use Rattle.std.specs.Prelude.{◌≡◌, ◌<◌, ◌≤◌, false, true};
 ghost use Rattle.abc_cli_answers.specs.declared.command.Command.{Command as AnyCommand};
 ghost use Rattle.abc_cli_answers.specs.declared.command.GenOptions.{GenOptions};
 ghost use Rattle.abc_cli_answers.specs.declared.command.RunOptions.{RunOptions};
-ghost use Rattle.abc_cli_answers.specs.End.{Ends, GivesLine, IsRead, UsesUp, stream};
+ghost use Rattle.abc_cli_answers.specs.End.{Ends, GivesLine, IsRunStatus, UsesUp, stream};
 ghost use Rattle.abc_cli_answers.specs.Answers.{Answer};
 ghost use Rattle.abc_cli.specs.Outcome.{AsksNoInput, CommandOutcome, IsOutcome, IsUsage, TakesFor, UsageOutcome, reads_input, usage_answer};
 ghost use Rattle.abc_cli.specs.Listed.{Lists};
@@ -37,11 +37,16 @@ fn run_command<S: Source, K: Sink, E: Sink, H: Host>(
     host: &H,
 ) -> Status
     requires { (options : GenOptions) → command.now ≡ Command.Gen options → options.methods ≤ 10000 }
-    ensures end { Ends (CommandOutcome (H.formulas host.now) command.now) (stream S.left S.faults source.old source.new) (stream K.written K.faults out.old out.new) (stream E.written E.faults err.old err.new) result }
-    ensures used_up { reads_input command.now ≡ true → UsesUp (stream S.left S.faults source.old source.new) result }
+    ensures end { Ends (CommandOutcome (H.formulas host.now) command.now)
+        (stream S.left S.faults source.old source.new) (stream K.written K.faults out.old out.new)
+        (stream E.written E.faults err.old err.new) result }
+    ensures used_up { reads_input command.now ≡ true
+        → UsesUp (stream S.left S.faults source.old source.new) result }
     ensures unread { reads_input command.now ≡ false → source.new ≡ source.old }
     ensures taken { TakesFor command.now (S.left source.old) (S.left source.new) }
-    ensures logged { (options : RunOptions) → command.now ≡ Command.Log options → AreLimits options.fuel (limits_of options) → IsRead result → GotLog (H.formulas host.now) (stream K.written K.faults out.old out.new) }
+    ensures logged { (options : RunOptions) → command.now ≡ Command.Log options
+        → AreLimits options.fuel (limits_of options) → IsRunStatus result
+        → GotLog (H.formulas host.now) (stream K.written K.faults out.old out.new) }
 {
     match command {
         Command::Canon => give(canon(alloc, source), out, err),
@@ -83,7 +88,9 @@ pub fn abc_main<S: Source, K: Sink, E: Sink, H: Host>(
     host: &H,
 ) -> Status
     // The run ends with the defined outcome, or with a fault that has its cause.
-    ensures end { Ends (IsOutcome words.now (H.formulas host.now)) (stream S.left S.faults source.old source.new) (stream K.written K.faults out.old out.new) (stream E.written E.faults err.old err.new) result }
+    ensures end { Ends (IsOutcome words.now (H.formulas host.now))
+        (stream S.left S.faults source.old source.new) (stream K.written K.faults out.old out.new)
+        (stream E.written E.faults err.old err.new) result }
     // Where the words ask for the input, nothing of it is left on status 0 and where a run ended.
     ensures used_up { ¬ AsksNoInput words.now → UsesUp (stream S.left S.faults source.old source.new) result }
     // Nothing is read where the words ask for nothing of the input.
@@ -91,15 +98,19 @@ pub fn abc_main<S: Source, K: Sink, E: Sink, H: Host>(
     // Whatever is answered, no more of the input is taken than shows that a file, or a text, is too long.
     ensures taken { (c : AnyCommand) → Says words.now c → TakesFor c (S.left source.old) (S.left source.new) }
     // Words outside the grammar are answered by their line, whatever the input is, and other words never are.
-    ensures usage { (a : Answer) → UsageOutcome words.now a → GivesLine (stream E.written E.faults err.old err.new) a result }
+    ensures usage { (a : Answer) → UsageOutcome words.now a
+        → GivesLine (stream E.written E.faults err.old err.new) a result }
     ensures untouched { (a : Answer) → UsageOutcome words.now a → out.new ≡ out.old }
     ensures well_formed { IsWellFormed words.now → result ≡ Status.Usage → ⊥ }
     // What `dis` writes is a text of the file that was read, and of no other; unless it is too long, `asm` of it gives the canonical bytes.
-    ensures listed { Says words.now Command.Dis → result ≡ Status.Done → Lists (stream S.left S.faults source.old source.new) (stream K.written K.faults out.old out.new) }
+    ensures listed { Says words.now Command.Dis → result ≡ Status.Done
+        → Lists (stream S.left S.faults source.old source.new) (stream K.written K.faults out.old out.new) }
     // What `tidy` writes spells a file of the same free form, and `tidy` of it gives the same bytes.
-    ensures tidied { Says words.now Command.Tidy → result ≡ Status.Done → Tidies (stream S.left S.faults source.old source.new) (stream K.written K.faults out.old out.new) }
+    ensures tidied { Says words.now Command.Tidy → result ≡ Status.Done
+        → Tidies (stream S.left S.faults source.old source.new) (stream K.written K.faults out.old out.new) }
     // What `log` writes where a run ended is a log: with a host of the same formulas, `replay` accepts it.
-    ensures logged { (options : RunOptions) → Says words.now (Command.Log options) → IsRead result → GotLog (H.formulas host.now) (stream K.written K.faults out.old out.new) }
+    ensures logged { (options : RunOptions) → Says words.now (Command.Log options) → IsRunStatus result
+        → GotLog (H.formulas host.now) (stream K.written K.faults out.old out.new) }
     // Memory is wanted for well-formed words alone.
     ensures memory { result ≡ Status.NoMemory → IsWellFormed words.now }
 {

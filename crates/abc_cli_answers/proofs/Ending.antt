@@ -18,9 +18,9 @@ use Rattle.abc_verify.proofs.Verifying.{of_any}
 use Rattle.abc_cli_answers.specs.declared.stop.Stop.{Stop}
 use Rattle.abc_cli_answers.specs.declared.stop.Stop.TheVariants as stops
 use Rattle.abc_cli_answers.specs.Lines.{read_fault_text, write_fault_text, no_memory_text}
-use Rattle.abc_cli_answers.specs.Answers.{Answer, On, told, given}
-use Rattle.abc_cli_answers.specs.Stops.{Gives, IsGiven, Stops, stop_answer}
-use Rattle.abc_cli_answers.specs.End.{Channel, channel, Got, GotFront, HasFailed, GivesBytes, GivesLine, Ends, IsEnd, IsRead, UsesUp}
+use Rattle.abc_cli_answers.specs.Answers.{Answer, On, line_answer, bytes_answer}
+use Rattle.abc_cli_answers.specs.Stops.{GivesAllBytes, IsGiven, Stops, stop_answer}
+use Rattle.abc_cli_answers.specs.End.{Channel, channel, Got, GotFront, HasFailed, GivesBytes, GivesLine, Ends, IsEnd, IsRunStatus, UsesUp}
 
 -- a line that was written or not
 pub gives : {T E : Type 0} (before after : Option (List ℕ)) (n m : ℕ) (a : Answer) (written : Result T E) (s : Status)
@@ -54,15 +54,15 @@ line_ends P F out err a s p o (inl g) = at_status P F out err s a.status g.1 (Is
 line_ends P F out err a s p o (inr g) = at_status P F out err s status.WriteFault g.2 (IsEnd.line_failed a p g.0 o g.1)
 
 -- bytes that could not be written, and the line that says so
-pub bytes_failed : (P : Answer → Type 0) (F : Type 0) (out err : Channel) (a : Answer) (s : Status) → P a → HasFailed out → GotFront out a.out → GivesLine err (told status.WriteFault write_fault_text) s → IsEnd P F out err s
+pub bytes_failed : (P : Answer → Type 0) (F : Type 0) (out err : Channel) (a : Answer) (s : Status) → P a → HasFailed out → GotFront out a.out → GivesLine err (line_answer status.WriteFault write_fault_text) s → IsEnd P F out err s
 bytes_failed P F out err a s p f o (inl g) = at_status P F out err s status.WriteFault g.1 (IsEnd.out_failed a p f o g.0)
 bytes_failed P F out err a s p f o (inr g) = at_status P F out err s status.WriteFault g.2 (IsEnd.both_failed a p f g.0 o g.1)
 
-pub read_failed : (P : Answer → Type 0) (F : Type 0) (out err : Channel) (s : Status) → F → Got out [] → GivesLine err (told status.ReadFault read_fault_text) s → IsEnd P F out err s
+pub read_failed : (P : Answer → Type 0) (F : Type 0) (out err : Channel) (s : Status) → F → Got out [] → GivesLine err (line_answer status.ReadFault read_fault_text) s → IsEnd P F out err s
 read_failed P F out err s f o (inl g) = at_status P F out err s status.ReadFault g.1 (IsEnd.read_fault f o g.0)
 read_failed P F out err s f o (inr g) = at_status P F out err s status.WriteFault g.2 (IsEnd.read_line_failed f g.0 o g.1)
 
-pub memory_failed : (P : Answer → Type 0) (F : Type 0) (out err : Channel) (s : Status) → Got out [] → GivesLine err (told status.NoMemory no_memory_text) s → IsEnd P F out err s
+pub memory_failed : (P : Answer → Type 0) (F : Type 0) (out err : Channel) (s : Status) → Got out [] → GivesLine err (line_answer status.NoMemory no_memory_text) s → IsEnd P F out err s
 memory_failed P F out err s o (inl g) = at_status P F out err s status.NoMemory g.1 (IsEnd.no_memory o g.0)
 memory_failed P F out err s o (inr g) = at_status P F out err s status.WriteFault g.2 (IsEnd.memory_line_failed g.0 o g.1)
 
@@ -73,11 +73,11 @@ any_input P None f = ([], f [])
 any_input P (Some b) f = f b
 
 -- bytes of an answer without a line
-pub bytes_end : (P : Answer → Type 0) (F : Type 0) (out err : Channel) (bytes : List ℕ) (s : Status) → P (given bytes) → GivesBytes out err bytes s → IsEnd P F out err s
-bytes_end P F out err bytes s p (inl g) = at_status P F out err s status.Done g.2 (IsEnd.defined (given bytes) p g.0 g.1)
-bytes_end P F out err bytes s p (inr g) = bytes_failed P F out err (given bytes) s p g.0 g.1 g.2
+pub bytes_end : (P : Answer → Type 0) (F : Type 0) (out err : Channel) (bytes : List ℕ) (s : Status) → P (bytes_answer bytes) → GivesBytes out err bytes s → IsEnd P F out err s
+bytes_end P F out err bytes s p (inl g) = at_status P F out err s status.Done g.2 (IsEnd.defined (bytes_answer bytes) p g.0 g.1)
+bytes_end P F out err bytes s p (inr g) = bytes_failed P F out err (bytes_answer bytes) s p g.0 g.1 g.2
 
-pub gave : (Outcome : List ℕ → Answer → Type 0) (source out err : Channel) (bytes : List ℕ) (s : Status) → Gives Outcome source bytes → GivesBytes out err bytes s → Ends (On Outcome) source out err s
+pub gave : (Outcome : List ℕ → Answer → Type 0) (source out err : Channel) (bytes : List ℕ) (s : Status) → GivesAllBytes Outcome source bytes → GivesBytes out err bytes s → Ends (On Outcome) source out err s
 gave Outcome source out err bytes s g end = bytes_end (On Outcome source.before) (HasFailed source) out err bytes s g.outcome end
 
 stop_not_done : (stop : Stop) → (stop_answer stop).status ≡ status.Done → ⊥
@@ -93,7 +93,7 @@ pub not_done : (err : Channel) (stop : Stop) (s : Status) → GivesLine err (sto
 not_done err stop s (inl g) h = stop_not_done stop (sym g.1 ∙ h)
 not_done err stop s (inr g) h = let k = g.2 in cc
 
-stop_unread : (stop : Stop) → IsRead (stop_answer stop).status → ⊥
+stop_unread : (stop : Stop) → IsRunStatus (stop_answer stop).status → ⊥
 stop_unread (stops.File place reason) h = h
 stop_unread (stops.Text line reason) h = h
 stop_unread (stops.Item i rule) h = h
@@ -102,9 +102,9 @@ stop_unread (stops.Tidy rule i) h = h
 stop_unread stops.ReadFault h = h
 stop_unread stops.NoMemory h = h
 
-pub stop_not_read : (err : Channel) (stop : Stop) (s : Status) → GivesLine err (stop_answer stop) s → IsRead s → ⊥
-stop_not_read err stop s (inl g) h = stop_unread stop (subst IsRead g.1 h)
-stop_not_read err stop s (inr g) h = subst IsRead g.2 h
+pub stop_not_read : (err : Channel) (stop : Stop) (s : Status) → GivesLine err (stop_answer stop) s → IsRunStatus s → ⊥
+stop_not_read err stop s (inl g) h = stop_unread stop (subst IsRunStatus g.1 h)
+stop_not_read err stop s (inr g) h = subst IsRunStatus g.2 h
 
 -- a stop is no success
 pub stopped_undone : (Outcome : List ℕ → Answer → Type 0) (source out err : Channel) (stop : Stop) (s : Status) → Stops Outcome source stop → Got out [] → GivesLine err (stop_answer stop) s → IsEnd (λ a. On Outcome source.before a × (a.status ≢ status.Done)) (HasFailed source) out err s
@@ -122,12 +122,12 @@ stopped Outcome source out err stop s x o g =
 
 -- what a command gives is written, or the line that says why it gives nothing
 pub finished : (Outcome : List ℕ → Answer → Type 0) (source out err : Channel) (done : Result (Vec ℕ Global) Stop) (s : Status)
-    → IfOk done (λ bytes. Gives Outcome source bytes.items) → IfErr done (λ stop. Stops Outcome source stop) → IsGiven done out err s → Ends (On Outcome) source out err s
+    → IfOk done (λ bytes. GivesAllBytes Outcome source bytes.items) → IfErr done (λ stop. Stops Outcome source stop) → IsGiven done out err s → Ends (On Outcome) source out err s
 finished Outcome source out err (Ok bytes) s g x end = gave Outcome source out err bytes.items s g end
 finished Outcome source out err (Err stop) s g x end = stopped Outcome source out err stop s x end.0 end.1
 
 pub finished_used_up : (Outcome : List ℕ → Answer → Type 0) (source out err : Channel) (done : Result (Vec ℕ Global) Stop) (s : Status)
-    → IfOk done (λ bytes. Gives Outcome source bytes.items) → IsGiven done out err s → UsesUp source s
+    → IfOk done (λ bytes. GivesAllBytes Outcome source bytes.items) → IsGiven done out err s → UsesUp source s
 finished_used_up Outcome source out err (Ok bytes) s g end = λ h. g.used_up
 finished_used_up Outcome source out err (Err stop) s g end = λ h. absurd (stop_not_read err stop s end.1 h)
 

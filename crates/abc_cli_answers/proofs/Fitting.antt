@@ -6,7 +6,7 @@ use Rattle.std.proofs.lemmas.List.FromFn.{get_or-map-range_with_len}
 use Rattle.abc_file_types.specs.declared.code.Body.{Body}
 use Rattle.abc_file_types.specs.declared.tables.Sizes.{Sizes}
 use Rattle.abc_file_types.specs.declared.names.Namespace.{Namespace}
-use Rattle.abc_file_types.specs.Bodies.{IsWithin}
+use Rattle.abc_file_types.specs.Bodies.{IsHandlerWithin}
 use Rattle.abc_file_types.specs.Classes.{sizes_of}
 use Rattle.abc_file_types.specs.Files.{Fits}
 use Rattle.abc_file_types.specs.Ready.{IsReady}
@@ -20,16 +20,16 @@ use Rattle.abc_tables.proofs.FileFits.{file_fits, tables_fit}
 use Rattle.abc_tables.proofs.MethodsFit.{method_fits, names_unasked, options_unasked}
 use Rattle.abc_tables.proofs.PoolsFit.{doubles_fit, ints_fit, multiname_fits, multinames_fit, namespace_fits, namespace_sets_fit, namespaces_fit, pools_fit, texts_fit, uints_fit}
 use Rattle.abc_tables.proofs.TraitsFit.{fields_fit, metadata_unasked, trait_fits, traits_fit}
-use Rattle.abc_cli_answers.specs.Draws.{after}
-use Rattle.abc_cli_answers.specs.Generated.{body_of, first_body, function_body, function_name, function_signature, function_trait, generated, one_to, public_name, public_space, script_of, signature, texts}
+use Rattle.abc_cli_answers.specs.Draws.{draws_after}
+use Rattle.abc_cli_answers.specs.Generated.{generated_body, first_body, function_body, function_name, function_signature, function_trait, generated_file, one_to, public_name, public_space, generated_script, signature, generated_texts}
 use Rattle.abc_cli_answers.proofs.Ready.{drawn_ready, first_ready}
 use Rattle.abc_cli_answers.proofs.Short.{all_made, file_short, made_length, name_length}
 
 module _ (seed m : ℕ) (few : m ≤ 10000) where
   abbrev sizes : Sizes
-  sizes = sizes_of (generated seed m)
+  sizes = sizes_of (generated_file seed m)
 
-  strings_are : length (texts m) ≡ m + 2
+  strings_are : length (generated_texts m) ≡ m + 2
   strings_are = omega (arith, made_length function_name m)
 
   names_are : length (map public_name (one_to (m + 2))) ≡ m + 2
@@ -38,7 +38,7 @@ module _ (seed m : ℕ) (few : m ≤ 10000) where
   methods_are : length (signature 0 [] ∷ map function_signature (one_to m)) ≡ m + 1
   methods_are = omega (arith, made_length function_signature m)
 
-  texts_all : All FitsText (texts m)
+  texts_all : All FitsText (generated_texts m)
   texts_all =
       All-cons FitsText (codes "trace") (codes "int" ∷ map function_name (one_to m)) ((text_fits (codes "trace")).1 (omega arith))
       (All-cons FitsText (codes "int") (map function_name (one_to m)) ((text_fits (codes "int")).1 (omega arith))
@@ -49,15 +49,15 @@ module _ (seed m : ℕ) (few : m ≤ 10000) where
       (multiname_fits sizes (public_name i)).1 ((pool_index_fits _ 1).1 (omega arith, omega arith), (pool_index_fits _ i).1 (omega (arith, strings_are), omega arith))
 
   abbrev FitsSpace : Namespace → Type 0
-  FitsSpace = FitsNamespace (length (texts m))
+  FitsSpace = FitsNamespace (length (generated_texts m))
 
-  pools_are : FitPools (generated seed m)
-  pools_are = (pools_fit (generated seed m)).1 (record {
+  pools_are : FitPools (generated_file seed m)
+  pools_are = (pools_fit (generated_file seed m)).1 (record {
     ints = (ints_fit []).1 (omega arith, All-nil FitsInt);
     uints = (uints_fit [] (λ i. omega arith)).1 (omega arith);
     doubles = (doubles_fit []).1 (omega arith, All-nil FitsDouble);
-    strings = (texts_fit (texts m)).1 (omega (arith, strings_are), texts_all);
-    namespaces = (namespaces_fit (length (texts m)) (public_space ∷ [])).1 (omega arith, All-cons FitsSpace public_space [] ((namespace_fits (length (texts m)) public_space).1 ((pool_index_fits (length (texts m)) 0).1 (omega arith, omega arith))) (All-nil FitsSpace));
+    strings = (texts_fit (generated_texts m)).1 (omega (arith, strings_are), texts_all);
+    namespaces = (namespaces_fit (length (generated_texts m)) (public_space ∷ [])).1 (omega arith, All-cons FitsSpace public_space [] ((namespace_fits (length (generated_texts m)) public_space).1 ((pool_index_fits (length (generated_texts m)) 0).1 (omega arith, omega arith))) (All-nil FitsSpace));
     sets = (namespace_sets_fit 1 []).1 (omega arith, All-nil (FitsNamespaceSet 1));
     names = (multinames_fit sizes (map public_name (one_to (m + 2))) refl).1 (omega (arith, names_are), all_made (FitsMultiname sizes) public_name (m + 2) name_at);
   })
@@ -82,15 +82,15 @@ module _ (seed m : ℕ) (few : m ≤ 10000) where
         (metadata_unasked sizes (function_trait i) refl).1 refl,
       )
 
-  script_at : FitsScript sizes (script_of m)
+  script_at : FitsScript sizes (generated_script m)
   script_at =
-      (script_fits sizes (script_of m)).1 (
+      (script_fits sizes (generated_script m)).1 (
         (position_fits _ 0).1 (omega (arith, methods_are), omega arith),
         (traits_fit sizes (map function_trait (one_to m))).1 (omega (arith, made_length function_trait m), all_made (FitsTrait sizes) function_trait m trait_at),
       )
 
-  definitions_are : FitDefinitions (generated seed m)
-  definitions_are = (definitions_fit (generated seed m)).1 (record {
+  definitions_are : FitDefinitions (generated_file seed m)
+  definitions_are = (definitions_fit (generated_file seed m)).1 (record {
     method_count = omega (arith, methods_are);
     methods =
         All-cons (FitsMethod sizes) (signature 0 []) (map function_signature (one_to m)) (signature_fits 0 [] (omega arith) (omega arith) (All-nil (λ x. x ≤ m + 2)))
@@ -102,12 +102,12 @@ module _ (seed m : ℕ) (few : m ≤ 10000) where
     instances = All-nil (FitsInstance sizes);
     classes = All-nil (FitsClass sizes);
     script_count = omega arith;
-    scripts = All-cons (FitsScript sizes) (script_of m) [] script_at (All-nil (FitsScript sizes));
+    scripts = All-cons (FitsScript sizes) (generated_script m) [] script_at (All-nil (FitsScript sizes));
   })
 
-  body_at : (i locals scopes : ℕ) (b : Body) → i ≤ m → locals < 2 ^ 30 → scopes < 2 ^ 30 → b ≡ body_of i locals scopes b.code → IsReady b.code → FitsBody sizes b
+  body_at : (i locals scopes : ℕ) (b : Body) → i ≤ m → locals < 2 ^ 30 → scopes < 2 ^ 30 → b ≡ generated_body i locals scopes b.code → IsReady b.code → FitsBody sizes b
   body_at i locals scopes b high few_locals few_scopes e ready = subst (FitsBody sizes) (sym e) (
-      (body_fits sizes (body_of i locals scopes b.code)).1 (
+      (body_fits sizes (generated_body i locals scopes b.code)).1 (
         (position_fits _ i).1 (omega (arith, methods_are), omega arith),
         record {
           max_stack = (number_fits 2).1 (omega arith);
@@ -115,7 +115,7 @@ module _ (seed m : ℕ) (few : m ≤ 10000) where
           init_scope = (number_fits 0).1 (omega arith);
           max_scope = (number_fits scopes).1 few_scopes;
         },
-        record { code = ready; places = All-nil (IsWithin (length b.code)) },
+        record { code = ready; places = All-nil (IsHandlerWithin (length b.code)) },
         omega arith,
         All-nil (HasNames sizes),
         (traits_fit sizes []).1 (omega arith, All-nil (FitsTrait sizes)),
@@ -133,13 +133,13 @@ module _ (seed m : ℕ) (few : m ≤ 10000) where
   different : AllPairs Differ all_bodies
   different i j d less lt e = absurd (omega (arith, method_of i d (omega arith), method_of j d lt, e))
 
-  bodies_are : FitBodies (generated seed m)
-  bodies_are = (bodies_fit (generated seed m)).1 (
+  bodies_are : FitBodies (generated_file seed m)
+  bodies_are = (bodies_fit (generated_file seed m)).1 (
     omega (arith, made_length (function_body seed) m),
     All-cons (FitsBody sizes) (first_body m) (map (function_body seed) (one_to m)) (body_at 0 2 1 (first_body m) (omega arith) (omega arith) (omega arith) refl (first_ready m few))
-        (all_made (FitsBody sizes) (function_body seed) m (λ i low high. body_at i 3 0 (function_body seed i) high (omega arith) (omega arith) refl (drawn_ready (after seed (3 * (i - 1)))))),
+        (all_made (FitsBody sizes) (function_body seed) m (λ i low high. body_at i 3 0 (function_body seed i) high (omega arith) (omega arith) refl (drawn_ready (draws_after seed (3 * (i - 1)))))),
     different,
   )
 
-  pub generated_fits : Fits (generated seed m)
-  generated_fits = (file_fits (generated seed m)).1 (file_short m seed few, (tables_fit (generated seed m)).1 (pools_are, definitions_are, bodies_are))
+  pub generated_fits : Fits (generated_file seed m)
+  generated_fits = (file_fits (generated_file seed m)).1 (file_short m seed few, (tables_fit (generated_file seed m)).1 (pools_are, definitions_are, bodies_are))

@@ -2,7 +2,7 @@
 use Rattle.std.proofs.Common.{◌≡◌, ℕ, suc, zero, ◌+◌, ◌*◌, List, [], ◌∷◌, ◌++◌, map, sym, ap, ap₂, ◌∙◌, append_assoc, append-nil, arith}
 use Rattle.std.specs.List.{flat_map, range_with_len}
 use Rattle.std.proofs.lemmas.List.FromFn.{map-range_with_len_more}
-use Rattle.abc_cli_answers.specs.Draws.{after}
+use Rattle.abc_cli_answers.specs.Draws.{draws_after}
 
 -- one more number, behind other values
 pub one_more : {A : Type 0} (f : ℕ → A) (n : ℕ) (front xs ys : List A) (x : A) → ys ≡ xs ++ x ∷ [] → xs ≡ front ++ map f (range_with_len 1 n) → x ≡ f (n + 1) → ys ≡ front ++ map f (range_with_len 1 (n + 1))
@@ -21,5 +21,5 @@ one_joined f n front xs ys e i =
     ∙ ap (λ zs. front ++ zs) (sym (joined_more f 1 n (n + 1) (omega arith)) ∙ ap (λ k. flat_map f (range_with_len 1 k)) {x = suc n} {y = n + 1} (omega arith))
 
 -- three more draws
-pub three_more : (seed n : ℕ) → after (after seed (3 * n)) 3 ≡ after seed (3 * (n + 1))
-three_more seed n = ap (after seed) {x = suc (suc (suc (3 * n)))} {y = 3 * (n + 1)} (omega arith)
+pub three_more : (seed n : ℕ) → draws_after (draws_after seed (3 * n)) 3 ≡ draws_after seed (3 * (n + 1))
+three_more seed n = ap (draws_after seed) {x = suc (suc (suc (3 * n)))} {y = 3 * (n + 1)} (omega arith)

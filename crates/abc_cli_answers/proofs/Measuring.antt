@@ -7,9 +7,9 @@ use Rattle.abc_file_types.specs.declared.tables.Abc.{Abc}
 use Rattle.abc_file_types.specs.Bodies.{IsReadyBody}
 use Rattle.abc_file_types.specs.Files.{Fits, file_bytes}
 use Rattle.abc_file_types.proofs.Whole.{file_ready}
-use Rattle.abc_cli_answers.specs.Codes.{call_of, callpropvoid, findpropstrict, first_code, getlocal_1, returnvoid}
-use Rattle.abc_cli_answers.specs.Generated.{function_body, generated}
-use Rattle.abc_cli_answers.specs.Measured.{count_line, instruction_count, measured}
+use Rattle.abc_cli_answers.specs.Codes.{call_code, callpropvoid, findpropstrict, first_code, getlocal_1, returnvoid}
+use Rattle.abc_cli_answers.specs.Generated.{function_body, generated_file}
+use Rattle.abc_cli_answers.specs.Measured.{count_line, instruction_count, size_lines}
 use Rattle.abc_cli_answers.proofs.Ready.{calls_length}
 
 -- a line, piece by piece
@@ -25,8 +25,8 @@ line_is a b c d e word digits n first space more number last =
 
 -- the three lines, one after the other
 pub measured_is : (v : Abc) (a b c d : List ℕ) (n m k : ℕ) → n ≡ length (file_bytes v) → m ≡ length v.methods → k ≡ instruction_count v.bodies → a ≡ []
-    → b ≡ a ++ count_line (codes "bytes") n → c ≡ b ++ count_line (codes "methods") m → d ≡ c ++ count_line (codes "instructions") k → d ≡ measured v
-unfolding measured
+    → b ≡ a ++ count_line (codes "bytes") n → c ≡ b ++ count_line (codes "methods") m → d ≡ c ++ count_line (codes "instructions") k → d ≡ size_lines v
+unfolding size_lines
 measured_is v a b c d n m k long methods count none first second third = third
     ∙ ap (λ (x : List ℕ). x ++ count_line (codes "instructions") k) (second ∙ ap (λ (x : List ℕ). x ++ count_line (codes "methods") m) (first ∙ ap (λ (x : List ℕ). x ++ count_line (codes "bytes") n) none))
     ∙ ap (λ (x : ℕ). (count_line (codes "bytes") x ++ count_line (codes "methods") m) ++ count_line (codes "instructions") k) long
@@ -41,12 +41,12 @@ functions_count seed a (suc k) = omega (arith, functions_count seed (a + 1) k)
 
 first_count : (m : ℕ) → length (first_code m) ≡ 5 * m + 8
 first_count m =
-    omega (arith, calls_length 1 m, length-append (flat_map call_of (range_with_len 1 m)) (findpropstrict 1 ∷ getlocal_1 ∷ callpropvoid 1 1 ∷ returnvoid ∷ []))
+    omega (arith, calls_length 1 m, length-append (flat_map call_code (range_with_len 1 m)) (findpropstrict 1 ∷ getlocal_1 ∷ callpropvoid 1 1 ∷ returnvoid ∷ []))
 
-pub generated_count : (seed m : ℕ) → instruction_count (generated seed m).bodies ≡ 21 * m + 8
+pub generated_count : (seed m : ℕ) → instruction_count (generated_file seed m).bodies ≡ 21 * m + 8
 generated_count seed m = omega (arith, functions_count seed 1 m, first_count m)
 
-pub few_instructions : (seed m : ℕ) → m ≤ 10000 → instruction_count (generated seed m).bodies < 2 ^ 32
+pub few_instructions : (seed m : ℕ) → m ≤ 10000 → instruction_count (generated_file seed m).bodies < 2 ^ 32
 few_instructions seed m few = omega (arith, few, generated_count seed m)
 
 pub bodies_ready : (v : Abc) → Fits v → All IsReadyBody v.bodies

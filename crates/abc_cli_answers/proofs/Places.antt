@@ -5,8 +5,8 @@ use Rattle.std.specs.Option.{option_map}
 use Rattle.std.specs.Str.{bytes_eq}
 use Rattle.std.proofs.lemmas.Bool.{leb-true, le-leb}
 use Rattle.std.proofs.lemmas.Slice.Eq.{bytes_eq-Decides}
-use Rattle.abc_cli_answers.specs.Commands.{CommandOption, Setting, setting}
-use Rattle.abc_cli_answers.specs.Grammar.{Gives, GivesOne}
+use Rattle.abc_cli_answers.specs.Commands.{CommandOption, OptionSetting, option_setting}
+use Rattle.abc_cli_answers.specs.Grammar.{GivesNumber, GivesOne}
 use Rattle.abc_cli_answers.specs.Grammar.GivesOne.{first, later}
 use Rattle.abc_cli_answers.specs.Reading.{can_take, name_and_number, some_if}
 use Rattle.abc_cli_answers.proofs.Cuts.{has_no_sign, name_and_number-gives, gives-found}
@@ -25,18 +25,18 @@ abbrev pub agrees : Option ℕ → ℕ → Type 0
 agrees None n = ⊤
 agrees (Some m) n = n ≡ m
 
-abbrev pub Agree : List Place → List Setting → Type 0
+abbrev pub Agree : List Place → List OptionSetting → Type 0
 Agree [] [] = ⊤
 Agree [] (s ∷ settings) = ⊥
 Agree (p ∷ places) [] = ⊥
 Agree (place option given ∷ places) (s ∷ settings) = (s.option ≡ option) × agrees given s.number × Agree places settings
 
 -- the settings of the options that were given no number yet
-abbrev pub unless_given : Option ℕ → Setting → List Setting → List Setting
+abbrev pub unless_given : Option ℕ → OptionSetting → List OptionSetting → List OptionSetting
 unless_given None s settings = s ∷ settings
 unless_given (Some n) s settings = settings
 
-abbrev pub left_of : List Place → List Setting → List Setting
+abbrev pub left_of : List Place → List OptionSetting → List OptionSetting
 left_of [] settings = []
 left_of (p ∷ places) [] = []
 left_of (place option given ∷ places) (s ∷ settings) = unless_given given s (left_of places settings)
@@ -90,28 +90,28 @@ in_range o n e = (leb-true o.least n (and_left _ _ e), leb-true n o.greatest (an
 can-take : (o : CommandOption) (n : ℕ) → o.least ≤ n → n ≤ o.greatest → can_take o None n ≡ true
 can-take o n least greatest = rw (le-leb o.least n least, le-leb n o.greatest greatest) refl
 
-gives_cases : {word : List ℕ} {s : Setting} {others left : List Setting} → GivesOne word (s ∷ others) left → (Gives word s × (left ≡ others)) ⊎ ((rest : List Setting) × (left ≡ s ∷ rest) × GivesOne word others rest)
+gives_cases : {word : List ℕ} {s : OptionSetting} {others left : List OptionSetting} → GivesOne word (s ∷ others) left → (GivesNumber word s × (left ≡ others)) ⊎ ((rest : List OptionSetting) × (left ≡ s ∷ rest) × GivesOne word others rest)
 gives_cases (first g) = inl (g, refl)
 gives_cases (later {left} r) = inr (left, refl, r)
 
 -- what a word says of a name and a number
 module _ (word name : List ℕ) (n : ℕ) (found : name_and_number word ≡ Some (name, n)) where
   -- a word that gives a setting has the setting's name and number
-  gives_name : (s : Setting) → has_no_sign s.option.name ≡ true → Gives word s → (s.option.name ≡ name) × (s.number ≡ n)
+  gives_name : (s : OptionSetting) → has_no_sign s.option.name ≡ true → GivesNumber word s → (s.option.name ≡ name) × (s.number ≡ n)
   gives_name s plain g =
       let same : Some (pair_of s.option.name s.number) ≡ Some (pair_of name n) = sym (name_and_number-gives word s plain g) ∙ found in
       let pair : pair_of s.option.name s.number ≡ pair_of name n = cc in
       (ap (λ x. x.0) pair, ap (λ x. x.1) pair)
 
   -- it gives the setting of no option with another name
-  not_other : (o : CommandOption) (s : Setting) → has_no_sign o.name ≡ true → s.option ≡ o → bytes_eq name o.name ≡ false → ¬ Gives word s
+  not_other : (o : CommandOption) (s : OptionSetting) → has_no_sign o.name ≡ true → s.option ≡ o → bytes_eq name o.name ≡ false → ¬ GivesNumber word s
   not_other o s plain is other g =
       let names : s.option.name ≡ o.name = ap (λ (x : CommandOption). x.name) is in
       let both = gives_name s (rw names plain) g in
       let same : bytes_eq name o.name ≡ true = (bytes_eq-Decides name o.name).1 (sym both.0 ∙ names) in
       absurd cc
 
-  gives_no_other : (places : List Place) (settings left : List Setting) → has_none name places ≡ true → have_own_names places ≡ true → Agree places settings → ¬ GivesOne word (left_of places settings) left
+  gives_no_other : (places : List Place) (settings left : List OptionSetting) → has_none name places ≡ true → have_own_names places ≡ true → Agree places settings → ¬ GivesOne word (left_of places settings) left
   gives_no_other [] [] left others own agree g = elim g [ ]
   gives_no_other [] (s ∷ settings) left others own agree g = absurd agree
   gives_no_other (p ∷ places) [] left others own agree g = absurd agree
@@ -126,14 +126,14 @@ module _ (word name : List ℕ) (n : ℕ) (found : name_and_number word ≡ Some
 
   -- ---- the option of that name
 
-  no_other_here : (o : CommandOption) (places : List Place) (settings left : List Setting) → bytes_eq name o.name ≡ true → have_own_names (place o None ∷ places) ≡ true → Agree places settings → ¬ GivesOne word (left_of places settings) left
+  no_other_here : (o : CommandOption) (places : List Place) (settings left : List OptionSetting) → bytes_eq name o.name ≡ true → have_own_names (place o None ∷ places) ≡ true → Agree places settings → ¬ GivesOne word (left_of places settings) left
   no_other_here o places settings left is own agree g =
       let same : name ≡ o.name = (bytes_eq-Decides name o.name).0 is in
       let rest = and_right (has_no_sign o.name) _ own in
       let others : has_none name places ≡ true = rw same (and_left _ _ rest) in
       gives_no_other places settings left others (and_right _ _ rest) agree g
 
-  step_here : (o : CommandOption) (given : Option ℕ) (places after : List Place) (s : Setting) (settings left : List Setting) → bytes_eq name o.name ≡ true → have_own_names (place o given ∷ places) ≡ true
+  step_here : (o : CommandOption) (given : Option ℕ) (places after : List Place) (s : OptionSetting) (settings left : List OptionSetting) → bytes_eq name o.name ≡ true → have_own_names (place o given ∷ places) ≡ true
       → some_if (can_take o given n) (place o (Some n) ∷ places) ≡ Some after → Agree (place o given ∷ places) (s ∷ settings) → GivesOne word (left_of (place o given ∷ places) (s ∷ settings)) left → Agree after (s ∷ settings) × (left ≡ left_of after (s ∷ settings))
   step_here o None places after s settings left is own e agree g =
       let t = some_if_ok (can_take o None n) (place o (Some n) ∷ places) after e in
@@ -146,8 +146,8 @@ module _ (word name : List ℕ) (n : ℕ) (found : name_and_number word ≡ Some
       ]
   step_here o (Some m) places after s settings left is own e agree g = absurd cc
 
-  step_later : (o : CommandOption) (given : Option ℕ) (places after : List Place) (s : Setting) (settings left : List Setting) → bytes_eq name o.name ≡ false → has_no_sign o.name ≡ true
-      → ((later : List Place) (rest : List Setting) → put places name n ≡ Some later → GivesOne word (left_of places settings) rest → Agree later settings × (rest ≡ left_of later settings))
+  step_later : (o : CommandOption) (given : Option ℕ) (places after : List Place) (s : OptionSetting) (settings left : List OptionSetting) → bytes_eq name o.name ≡ false → has_no_sign o.name ≡ true
+      → ((later : List Place) (rest : List OptionSetting) → put places name n ≡ Some later → GivesOne word (left_of places settings) rest → Agree later settings × (rest ≡ left_of later settings))
       → option_map (λ others. place o given ∷ others) (put places name n) ≡ Some after → Agree (place o given ∷ places) (s ∷ settings) → GivesOne word (left_of (place o given ∷ places) (s ∷ settings)) left → Agree after (s ∷ settings) × (left ≡ left_of after (s ∷ settings))
   step_later o None places after s settings left other plain more e agree g =
       let m = map_ok (λ others. place o None ∷ others) (put places name n) after e in
@@ -156,7 +156,7 @@ module _ (word name : List ℕ) (n : ℕ) (found : name_and_number word ≡ Some
         | inl h ↦ absurd (not_other o s plain agree.0 other h.0)
         | inr h ↦
             let t = more m.0 h.0 m.1 h.2 in
-            subst Q m.2 ((agree.0, agree.1, t.0), h.1 ∙ ap (λ (l : List Setting). s ∷ l) t.1)
+            subst Q m.2 ((agree.0, agree.1, t.0), h.1 ∙ ap (λ (l : List OptionSetting). s ∷ l) t.1)
       ]
   step_later o (Some k) places after s settings left other plain more e agree g =
       let m = map_ok (λ others. place o (Some k) ∷ others) (put places name n) after e in
@@ -164,14 +164,14 @@ module _ (word name : List ℕ) (n : ℕ) (found : name_and_number word ≡ Some
       let t = more m.0 left m.1 g in
       subst Q m.2 ((agree.0, agree.1, t.0), t.1)
 
-  step_by : (o : CommandOption) (given : Option ℕ) (places after : List Place) (s : Setting) (settings left : List Setting) (test : Bool) → bytes_eq name o.name ≡ test → have_own_names (place o given ∷ places) ≡ true
-      → ((later : List Place) (rest : List Setting) → put places name n ≡ Some later → GivesOne word (left_of places settings) rest → Agree later settings × (rest ≡ left_of later settings))
+  step_by : (o : CommandOption) (given : Option ℕ) (places after : List Place) (s : OptionSetting) (settings left : List OptionSetting) (test : Bool) → bytes_eq name o.name ≡ test → have_own_names (place o given ∷ places) ≡ true
+      → ((later : List Place) (rest : List OptionSetting) → put places name n ≡ Some later → GivesOne word (left_of places settings) rest → Agree later settings × (rest ≡ left_of later settings))
       → cond test (some_if (can_take o given n) (place o (Some n) ∷ places)) (option_map (λ others. place o given ∷ others) (put places name n)) ≡ Some after → Agree (place o given ∷ places) (s ∷ settings) → GivesOne word (left_of (place o given ∷ places) (s ∷ settings)) left → Agree after (s ∷ settings) × (left ≡ left_of after (s ∷ settings))
   step_by o given places after s settings left true is own more e agree g = step_here o given places after s settings left is own e agree g
   step_by o given places after s settings left false is own more e agree g = step_later o given places after s settings left is (and_left _ _ own) more e agree g
 
   -- a word that is taken gives the setting of the place that it changes
-  pub taken : (places after : List Place) (settings left : List Setting) → have_own_names places ≡ true → put places name n ≡ Some after → Agree places settings → GivesOne word (left_of places settings) left → Agree after settings × (left ≡ left_of after settings)
+  pub taken : (places after : List Place) (settings left : List OptionSetting) → have_own_names places ≡ true → put places name n ≡ Some after → Agree places settings → GivesOne word (left_of places settings) left → Agree after settings × (left ≡ left_of after settings)
   taken [] after settings left own e agree g = absurd cc
   taken (p ∷ places) after [] left own e agree g = absurd agree
   taken (place o given ∷ places) after (s ∷ settings) left own e agree g =
@@ -179,7 +179,7 @@ module _ (word name : List ℕ) (n : ℕ) (found : name_and_number word ≡ Some
 
   -- ---- a word that is refused
 
-  no_step_here : (o : CommandOption) (given : Option ℕ) (places : List Place) (s : Setting) (settings left : List Setting) → bytes_eq name o.name ≡ true → have_own_names (place o given ∷ places) ≡ true
+  no_step_here : (o : CommandOption) (given : Option ℕ) (places : List Place) (s : OptionSetting) (settings left : List OptionSetting) → bytes_eq name o.name ≡ true → have_own_names (place o given ∷ places) ≡ true
       → some_if (can_take o given n) (place o (Some n) ∷ places) ≡ None → Agree (place o given ∷ places) (s ∷ settings) → ¬ GivesOne word (left_of (place o given ∷ places) (s ∷ settings)) left
   no_step_here o None places s settings left is own e agree g =
       elim (gives_cases g) [
@@ -195,8 +195,8 @@ module _ (word name : List ℕ) (n : ℕ) (found : name_and_number word ≡ Some
       ]
   no_step_here o (Some m) places s settings left is own e agree g = no_other_here o places settings left is own agree.2 g
 
-  no_step_later : (o : CommandOption) (given : Option ℕ) (places : List Place) (s : Setting) (settings left : List Setting) → bytes_eq name o.name ≡ false → has_no_sign o.name ≡ true
-      → ((rest : List Setting) → put places name n ≡ None → ¬ GivesOne word (left_of places settings) rest)
+  no_step_later : (o : CommandOption) (given : Option ℕ) (places : List Place) (s : OptionSetting) (settings left : List OptionSetting) → bytes_eq name o.name ≡ false → has_no_sign o.name ≡ true
+      → ((rest : List OptionSetting) → put places name n ≡ None → ¬ GivesOne word (left_of places settings) rest)
       → option_map (λ others. place o given ∷ others) (put places name n) ≡ None → Agree (place o given ∷ places) (s ∷ settings) → ¬ GivesOne word (left_of (place o given ∷ places) (s ∷ settings)) left
   no_step_later o None places s settings left other plain more e agree g =
       elim (gives_cases g) [
@@ -205,14 +205,14 @@ module _ (word name : List ℕ) (n : ℕ) (found : name_and_number word ≡ Some
       ]
   no_step_later o (Some m) places s settings left other plain more e agree g = more left (map_none _ _ e) g
 
-  no_step_by : (o : CommandOption) (given : Option ℕ) (places : List Place) (s : Setting) (settings left : List Setting) (test : Bool) → bytes_eq name o.name ≡ test → have_own_names (place o given ∷ places) ≡ true
-      → ((rest : List Setting) → put places name n ≡ None → ¬ GivesOne word (left_of places settings) rest)
+  no_step_by : (o : CommandOption) (given : Option ℕ) (places : List Place) (s : OptionSetting) (settings left : List OptionSetting) (test : Bool) → bytes_eq name o.name ≡ test → have_own_names (place o given ∷ places) ≡ true
+      → ((rest : List OptionSetting) → put places name n ≡ None → ¬ GivesOne word (left_of places settings) rest)
       → cond test (some_if (can_take o given n) (place o (Some n) ∷ places)) (option_map (λ others. place o given ∷ others) (put places name n)) ≡ None → Agree (place o given ∷ places) (s ∷ settings) → ¬ GivesOne word (left_of (place o given ∷ places) (s ∷ settings)) left
   no_step_by o given places s settings left true is own more e agree g = no_step_here o given places s settings left is own e agree g
   no_step_by o given places s settings left false is own more e agree g = no_step_later o given places s settings left is (and_left _ _ own) more e agree g
 
   -- a word that is refused gives no setting that is left
-  pub refused : (places : List Place) (settings left : List Setting) → have_own_names places ≡ true → put places name n ≡ None → Agree places settings → ¬ GivesOne word (left_of places settings) left
+  pub refused : (places : List Place) (settings left : List OptionSetting) → have_own_names places ≡ true → put places name n ≡ None → Agree places settings → ¬ GivesOne word (left_of places settings) left
   refused [] [] left own e agree g = elim g [ ]
   refused [] (s ∷ settings) left own e agree g = absurd agree
   refused (p ∷ places) [] left own e agree g = absurd agree
@@ -221,20 +221,20 @@ module _ (word name : List ℕ) (n : ℕ) (found : name_and_number word ≡ Some
 
   -- ---- a word that was taken, again
 
-  back_here : (o : CommandOption) (given : Option ℕ) (places after : List Place) (s : Setting) (settings : List Setting) → bytes_eq name o.name ≡ true
+  back_here : (o : CommandOption) (given : Option ℕ) (places after : List Place) (s : OptionSetting) (settings : List OptionSetting) → bytes_eq name o.name ≡ true
       → some_if (can_take o given n) (place o (Some n) ∷ places) ≡ Some after → Agree after (s ∷ settings) → Agree (place o given ∷ places) (s ∷ settings) × GivesOne word (left_of (place o given ∷ places) (s ∷ settings)) (left_of after (s ∷ settings))
   back_here o None places after s settings is e agree =
       let t = some_if_ok (can_take o None n) (place o (Some n) ∷ places) after e in
       let range = in_range o n t.0 in
       let Q : List Place → Type 0 = λ ps. Agree ps (s ∷ settings) → Agree (place o None ∷ places) (s ∷ settings) × GivesOne word (left_of (place o None ∷ places) (s ∷ settings)) (left_of ps (s ∷ settings)) in
       let same : name ≡ o.name = (bytes_eq-Decides name o.name).0 is in
-      let one : Gives word (setting o n) = gives-found word name n o found same range.0 range.1 in
-      let P : CommandOption → Type 0 = λ x. Gives word (setting x n) in
-      let R : ℕ → Type 0 = λ k. Gives word (setting s.option k) in
+      let one : GivesNumber word (option_setting o n) = gives-found word name n o found same range.0 range.1 in
+      let P : CommandOption → Type 0 = λ x. GivesNumber word (option_setting x n) in
+      let R : ℕ → Type 0 = λ k. GivesNumber word (option_setting s.option k) in
       subst Q t.1 (λ a. ((a.0, tt, a.2), first (subst R (sym a.1) (subst P (sym a.0) one)))) agree
   back_here o (Some m) places after s settings is e agree = absurd cc
 
-  back_later : (o : CommandOption) (given : Option ℕ) (places after : List Place) (s : Setting) (settings : List Setting)
+  back_later : (o : CommandOption) (given : Option ℕ) (places after : List Place) (s : OptionSetting) (settings : List OptionSetting)
       → ((later : List Place) → put places name n ≡ Some later → Agree later settings → Agree places settings × GivesOne word (left_of places settings) (left_of later settings))
       → option_map (λ others. place o given ∷ others) (put places name n) ≡ Some after → Agree after (s ∷ settings) → Agree (place o given ∷ places) (s ∷ settings) × GivesOne word (left_of (place o given ∷ places) (s ∷ settings)) (left_of after (s ∷ settings))
   back_later o None places after s settings more e agree =
@@ -246,7 +246,7 @@ module _ (word name : List ℕ) (n : ℕ) (found : name_and_number word ≡ Some
       let Q : List Place → Type 0 = λ ps. Agree ps (s ∷ settings) → Agree (place o (Some k) ∷ places) (s ∷ settings) × GivesOne word (left_of (place o (Some k) ∷ places) (s ∷ settings)) (left_of ps (s ∷ settings)) in
       subst Q m.2 (λ a. let t = more m.0 m.1 a.2 in ((a.0, a.1, t.0), t.1)) agree
 
-  back_by : (o : CommandOption) (given : Option ℕ) (places after : List Place) (s : Setting) (settings : List Setting) (test : Bool) → bytes_eq name o.name ≡ test
+  back_by : (o : CommandOption) (given : Option ℕ) (places after : List Place) (s : OptionSetting) (settings : List OptionSetting) (test : Bool) → bytes_eq name o.name ≡ test
       → ((later : List Place) → put places name n ≡ Some later → Agree later settings → Agree places settings × GivesOne word (left_of places settings) (left_of later settings))
       → cond test (some_if (can_take o given n) (place o (Some n) ∷ places)) (option_map (λ others. place o given ∷ others) (put places name n)) ≡ Some after → Agree after (s ∷ settings) → Agree (place o given ∷ places) (s ∷ settings) × GivesOne word (left_of (place o given ∷ places) (s ∷ settings)) (left_of after (s ∷ settings))
   back_by o given places after s settings true is more e agree = back_here o given places after s settings is e agree
@@ -257,20 +257,20 @@ module _ (word name : List ℕ) (n : ℕ) (found : name_and_number word ≡ Some
   taken_no_settings o given places after false e agree = let m = map_ok _ _ _ e in subst (λ (ps : List Place). Agree ps []) (sym m.2) agree
 
   -- the setting of the place that a word changed is one that it gives
-  pub taken_again : (places after : List Place) (settings : List Setting) → put places name n ≡ Some after → Agree after settings → Agree places settings × GivesOne word (left_of places settings) (left_of after settings)
+  pub taken_again : (places after : List Place) (settings : List OptionSetting) → put places name n ≡ Some after → Agree after settings → Agree places settings × GivesOne word (left_of places settings) (left_of after settings)
   taken_again [] after settings e agree = absurd cc
   taken_again (place o given ∷ places) after [] e agree = absurd (taken_no_settings o given places after (bytes_eq name o.name) e agree)
   taken_again (place o given ∷ places) after (s ∷ settings) e agree =
       back_by o given places after s settings (bytes_eq name o.name) refl (λ later f a. taken_again places later settings f a) e agree
 
 -- a word in which no name and number is read gives no setting
-nothing_given : (word : List ℕ) → name_and_number word ≡ None → (o : CommandOption) (s : Setting) → has_no_sign o.name ≡ true → s.option ≡ o → ¬ Gives word s
+nothing_given : (word : List ℕ) → name_and_number word ≡ None → (o : CommandOption) (s : OptionSetting) → has_no_sign o.name ≡ true → s.option ≡ o → ¬ GivesNumber word s
 nothing_given word e o s plain is g =
     let names : s.option.name ≡ o.name = ap (λ (x : CommandOption). x.name) is in
     let some = name_and_number-gives word s (rw names plain) g in
     absurd cc
 
-pub nothing_read : (word : List ℕ) → name_and_number word ≡ None → (places : List Place) (settings left : List Setting) → have_own_names places ≡ true → Agree places settings → ¬ GivesOne word (left_of places settings) left
+pub nothing_read : (word : List ℕ) → name_and_number word ≡ None → (places : List Place) (settings left : List OptionSetting) → have_own_names places ≡ true → Agree places settings → ¬ GivesOne word (left_of places settings) left
 nothing_read word e [] [] left own agree g = elim g [ ]
 nothing_read word e [] (s ∷ settings) left own agree g = absurd agree
 nothing_read word e (p ∷ places) [] left own agree g = absurd agree

@@ -3,7 +3,7 @@ use Rattle.std.proofs.Common.{◌≡◌, ◌≢◌, ℕ, inl, inr, List, [], sym
 use Rattle.abc_base.specs.declared.status.Status.{Status}
 use Rattle.abc_base.specs.declared.status.Status.TheVariants as status
 use Rattle.abc_cli_answers.specs.declared.stop.Stop.{Stop}
-use Rattle.abc_cli_answers.specs.Answers.{Answer, told}
+use Rattle.abc_cli_answers.specs.Answers.{Answer, line_answer}
 use Rattle.abc_cli_answers.specs.End.{Channel, Got, GivesLine, IsEnd, RunsTo, UsesUp}
 use Rattle.abc_cli_answers.specs.Lines.{no_memory_text}
 use Rattle.abc_cli_answers.specs.Stops.{stop_answer}
@@ -22,10 +22,10 @@ runs_end P F out err s quiet (RunsTo.done a x d o e is) =
 runs_end P F out err s quiet (RunsTo.other end) = weaker (λ a. P a × (a.status ≢ status.Done)) P F F out err s (λ a x. x.0) (λ h. h) end
 runs_end P F out err s quiet (RunsTo.cut a x rose front line) = bytes_failed P F out err a s x rose front line
 
-pub memory_runs : (P : Answer → Type 0) (F : Type 0) (out err : Channel) (s : Status) → Got out [] → GivesLine err (told status.NoMemory no_memory_text) s → RunsTo P F out err s
+pub memory_runs : (P : Answer → Type 0) (F : Type 0) (out err : Channel) (s : Status) → Got out [] → GivesLine err (line_answer status.NoMemory no_memory_text) s → RunsTo P F out err s
 memory_runs P F out err s got line = RunsTo.other (memory_failed (λ a. P a × (a.status ≢ status.Done)) F out err s got line)
 
-pub told_quiet : (err : Channel) (t : Status) (text : List ℕ) (s : Status) → t ≢ status.Done → GivesLine err (told t text) s → s ≡ status.Done → ⊥
+pub told_quiet : (err : Channel) (t : Status) (text : List ℕ) (s : Status) → t ≢ status.Done → GivesLine err (line_answer t text) s → s ≡ status.Done → ⊥
 told_quiet err t text s not (inl g) d = not (sym g.1 ∙ d)
 told_quiet err t text s not (inr g) d = let k : s ≡ status.WriteFault = g.2 in cc
 

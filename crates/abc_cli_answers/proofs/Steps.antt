@@ -4,13 +4,13 @@ use Rattle.std.specs.Option.{option_map, option_and_then}
 use Rattle.std.specs.declared.result.Result.{Result}
 use Rattle.abc_cli_answers.specs.declared.command.Usage.{Usage}
 use Rattle.abc_cli_answers.specs.declared.command.Usage.TheVariants as usages
-use Rattle.abc_cli_answers.specs.Commands.{Setting}
+use Rattle.abc_cli_answers.specs.Commands.{OptionSetting}
 use Rattle.abc_cli_answers.specs.Grammar.{GivesOne, GiveAll}
 use Rattle.abc_cli_answers.specs.Grammar.GiveAll.{word}
 use Rattle.abc_cli_answers.specs.Reading.{name_and_number, after_word, after_words, go_on}
 use Rattle.abc_cli_answers.proofs.Places.{Place, Agree, left_of, put, have_own_names, taken, refused, taken_again, nothing_read}
 
-pub give_cases : {w : List ℕ} {words : List (List ℕ)} {settings : List Setting} → GiveAll (w ∷ words) settings → (left : List Setting) × GivesOne w settings left × GiveAll words left
+pub give_cases : {w : List ℕ} {words : List (List ℕ)} {settings : List OptionSetting} → GiveAll (w ∷ words) settings → (left : List OptionSetting) × GivesOne w settings left × GiveAll words left
 give_cases (word {left} one all) = (left, one, all)
 
 go_on_ok : {G H : Type 0} (i : ℕ) (x : Option G) (f : G → Result H Usage) (h : H) → go_on i x f ≡ Ok h → (g : G) × (x ≡ Some g) × (f g ≡ Ok h)
@@ -31,31 +31,31 @@ module _ (G : Type 0) (with : G → List ℕ → ℕ → Option G) (places : G �
 
   -- ---- one word
 
-  word_taken : (g h : G) (w : List ℕ) (settings : List Setting) (words : List (List ℕ)) → after_word with g w ≡ Some h → Agree (places g) settings → GiveAll (w ∷ words) (left_of (places g) settings) → Agree (places h) settings × GiveAll words (left_of (places h) settings)
+  word_taken : (g h : G) (w : List ℕ) (settings : List OptionSetting) (words : List (List ℕ)) → after_word with g w ≡ Some h → Agree (places g) settings → GiveAll (w ∷ words) (left_of (places g) settings) → Agree (places h) settings × GiveAll words (left_of (places h) settings)
   word_taken g h w settings words e agree all =
       let t = then_ok (λ (p : List ℕ × ℕ). with g p.0 p.1) (name_and_number w) h e in
       let a = give_cases all in
       let s = taken w t.0.0 t.0.1 t.1 (places g) (places h) settings a.0 (own g) (put_after g h t.0.0 t.0.1 t.2) agree a.1 in
-      (s.0, subst (λ (l : List Setting). GiveAll words l) s.1 a.2)
+      (s.0, subst (λ (l : List OptionSetting). GiveAll words l) s.1 a.2)
 
-  word_again : (g h : G) (w : List ℕ) (settings : List Setting) (words : List (List ℕ)) → after_word with g w ≡ Some h → Agree (places h) settings → GiveAll words (left_of (places h) settings) → Agree (places g) settings × GiveAll (w ∷ words) (left_of (places g) settings)
+  word_again : (g h : G) (w : List ℕ) (settings : List OptionSetting) (words : List (List ℕ)) → after_word with g w ≡ Some h → Agree (places h) settings → GiveAll words (left_of (places h) settings) → Agree (places g) settings × GiveAll (w ∷ words) (left_of (places g) settings)
   word_again g h w settings words e agree all =
       let t = then_ok (λ (p : List ℕ × ℕ). with g p.0 p.1) (name_and_number w) h e in
       let s = taken_again w t.0.0 t.0.1 t.1 (places g) (places h) settings (put_after g h t.0.0 t.0.1 t.2) agree in
       (s.0, word s.1 all)
 
-  refused_by : (g : G) (w : List ℕ) (settings left : List Setting) (found : Option (List ℕ × ℕ)) → name_and_number w ≡ found → option_and_then (λ p. with g p.0 p.1) found ≡ None → Agree (places g) settings → ¬ GivesOne w (left_of (places g) settings) left
+  refused_by : (g : G) (w : List ℕ) (settings left : List OptionSetting) (found : Option (List ℕ × ℕ)) → name_and_number w ≡ found → option_and_then (λ p. with g p.0 p.1) found ≡ None → Agree (places g) settings → ¬ GivesOne w (left_of (places g) settings) left
   refused_by g w settings left None is e agree one = nothing_read w is (places g) settings left (own g) agree one
   refused_by g w settings left (Some p) is e agree one = refused w p.0 p.1 is (places g) settings left (own g) (put_none g p.0 p.1 e) agree one
 
-  word_refused : (g : G) (w : List ℕ) (settings : List Setting) (words : List (List ℕ)) → after_word with g w ≡ None → Agree (places g) settings → ¬ GiveAll (w ∷ words) (left_of (places g) settings)
+  word_refused : (g : G) (w : List ℕ) (settings : List OptionSetting) (words : List (List ℕ)) → after_word with g w ≡ None → Agree (places g) settings → ¬ GiveAll (w ∷ words) (left_of (places g) settings)
   word_refused g w settings words e agree all =
       let a = give_cases all in
       refused_by g w settings a.0 (name_and_number w) refl e agree a.1
 
   -- ---- several words
 
-  pub words_taken : (words : List (List ℕ)) (g h : G) (i : ℕ) (settings : List Setting) (more : List (List ℕ)) → after_words with g i words ≡ Ok h → Agree (places g) settings → GiveAll (words ++ more) (left_of (places g) settings) → Agree (places h) settings × GiveAll more (left_of (places h) settings)
+  pub words_taken : (words : List (List ℕ)) (g h : G) (i : ℕ) (settings : List OptionSetting) (more : List (List ℕ)) → after_words with g i words ≡ Ok h → Agree (places g) settings → GiveAll (words ++ more) (left_of (places g) settings) → Agree (places h) settings × GiveAll more (left_of (places h) settings)
   words_taken [] g h i settings more e agree all =
       let is : g ≡ h = cc in
       subst (λ (x : G). Agree (places x) settings × GiveAll more (left_of (places x) settings)) is (agree, all)
@@ -64,7 +64,7 @@ module _ (G : Type 0) (with : G → List ℕ → ℕ → Option G) (places : G �
       let t = word_taken g s.0 w settings (words ++ more) s.1 agree all in
       words_taken words s.0 h (i + 1) settings more s.2 t.0 t.1
 
-  pub words_again : (words : List (List ℕ)) (g h : G) (i : ℕ) (settings : List Setting) (more : List (List ℕ)) → after_words with g i words ≡ Ok h → Agree (places h) settings → GiveAll more (left_of (places h) settings) → Agree (places g) settings × GiveAll (words ++ more) (left_of (places g) settings)
+  pub words_again : (words : List (List ℕ)) (g h : G) (i : ℕ) (settings : List OptionSetting) (more : List (List ℕ)) → after_words with g i words ≡ Ok h → Agree (places h) settings → GiveAll more (left_of (places h) settings) → Agree (places g) settings × GiveAll (words ++ more) (left_of (places g) settings)
   words_again [] g h i settings more e agree all =
       let is : h ≡ g = cc in
       subst (λ (x : G). Agree (places x) settings × GiveAll more (left_of (places x) settings)) is (agree, all)
@@ -79,7 +79,7 @@ module _ (G : Type 0) (with : G → List ℕ → ℕ → Option G) (places : G �
     pub is : u ≡ usages.Word (i + count)
     pub before : G
     pub taken : after_words with g i (take count words) ≡ Ok before
-    pub stops : (settings : List Setting) (more : List (List ℕ)) → Agree (places g) settings → ¬ GiveAll (take (suc count) words ++ more) (left_of (places g) settings)
+    pub stops : (settings : List OptionSetting) (more : List (List ℕ)) → Agree (places g) settings → ¬ GiveAll (take (suc count) words ++ more) (left_of (places g) settings)
 
   refused_later : (w : List ℕ) (words : List (List ℕ)) (g h : G) (i : ℕ) (u : Usage) → after_word with g w ≡ Some h → IsRefused h (i + 1) words u → IsRefused g i (w ∷ words) u
   refused_later w words g h i u e r = record {

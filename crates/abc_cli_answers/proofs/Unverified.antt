@@ -7,11 +7,11 @@ use Rattle.abc_file_types.specs.Part.{refusal}
 use Rattle.abc_link_names.specs.Linked.{LinkedFile}
 use Rattle.abc_file_types.specs.declared.tables.Abc.{Abc}
 use Rattle.abc_verify.proofs.Verifying.{of_any}
-use Rattle.abc_verify.specs.FileRefusing.{IsRefused, IsRefusedBy}
+use Rattle.abc_verify.specs.FileRefusing.{IsFileRefused, IsFileRefusedBy}
 use Rattle.abc_verify.specs.Verified.{IsReadVerified, IsVerifiedOf}
 use Rattle.abc_verify.specs.declared.verified_error.VerifiedError.{VerifiedError}
 use Rattle.abc_verify.specs.declared.verified_error.VerifiedError.TheVariants as errors
-use Rattle.abc_cli_answers.specs.Answers.{Answer, OfFileRead, Unverified, told}
+use Rattle.abc_cli_answers.specs.Answers.{Answer, OfFileRead, Unverified, line_answer}
 use Rattle.abc_cli_answers.specs.End.{Channel, HasFailed}
 use Rattle.abc_cli_answers.specs.Lines.{unverified_text}
 use Rattle.abc_cli_answers.specs.Stops.{Stops, stop_of_verified}
@@ -19,23 +19,23 @@ use Rattle.abc_cli_answers.proofs.Ending.{memory_stops}
 
 -- ---- an input that is no verified file
 
-refused_unverified : (input : List ℕ) (e : VerifiedError) → IsRefused input e → OfFileRead Unverified input (told status.Refused (unverified_text e))
-refused_unverified input e (IsRefused.bad place reason h) = OfFileRead.refused (refusal place reason) h refl
-refused_unverified input e (IsRefused.unverified v starts f r h) = OfFileRead.accepted v starts r (e, h, refl)
+refused_unverified : (input : List ℕ) (e : VerifiedError) → IsFileRefused input e → OfFileRead Unverified input (line_answer status.Refused (unverified_text e))
+refused_unverified input e (IsFileRefused.bad place reason h) = OfFileRead.refused (refusal place reason) h refl
+refused_unverified input e (IsFileRefused.unverified v starts f r h) = OfFileRead.accepted v starts r (e, h, refl)
 
-pub verified_stops : (source : Channel) (e : VerifiedError) → OfInput source.before (λ input. IsRefusedBy input e) → (e ≡ errors.ReadFault → HasFailed source) → Stops (OfFileRead Unverified) source (stop_of_verified e)
+pub verified_stops : (source : Channel) (e : VerifiedError) → OfInput source.before (λ input. IsFileRefusedBy input e) → (e ≡ errors.ReadFault → HasFailed source) → Stops (OfFileRead Unverified) source (stop_of_verified e)
 verified_stops source (errors.Refused place reason) f cause = record {
-  outcome = λ d. of_any (λ input. IsRefusedBy input (errors.Refused place reason)) (λ input. OfFileRead Unverified input (told status.Refused (unverified_text (errors.Refused place reason)))) source.before
+  outcome = λ d. of_any (λ input. IsFileRefusedBy input (errors.Refused place reason)) (λ input. OfFileRead Unverified input (line_answer status.Refused (unverified_text (errors.Refused place reason)))) source.before
       (λ b h. refused_unverified b (errors.Refused place reason) h) f;
   cause = λ h. absurd cc;
 }
 verified_stops source (errors.Link rule i) f cause = record {
-  outcome = λ d. of_any (λ input. IsRefusedBy input (errors.Link rule i)) (λ input. OfFileRead Unverified input (told status.Refused (unverified_text (errors.Link rule i)))) source.before
+  outcome = λ d. of_any (λ input. IsFileRefusedBy input (errors.Link rule i)) (λ input. OfFileRead Unverified input (line_answer status.Refused (unverified_text (errors.Link rule i)))) source.before
       (λ b h. refused_unverified b (errors.Link rule i) h) f;
   cause = λ h. absurd cc;
 }
 verified_stops source (errors.Verify m offset rule) f cause = record {
-  outcome = λ d. of_any (λ input. IsRefusedBy input (errors.Verify m offset rule)) (λ input. OfFileRead Unverified input (told status.Refused (unverified_text (errors.Verify m offset rule)))) source.before
+  outcome = λ d. of_any (λ input. IsFileRefusedBy input (errors.Verify m offset rule)) (λ input. OfFileRead Unverified input (line_answer status.Refused (unverified_text (errors.Verify m offset rule)))) source.before
       (λ b h. refused_unverified b (errors.Verify m offset rule) h) f;
   cause = λ h. absurd cc;
 }

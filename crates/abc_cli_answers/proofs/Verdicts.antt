@@ -17,10 +17,10 @@ use Rattle.abc_cli_answers.specs.declared.given.GivenRun.{GivenRun}
 use Rattle.abc_cli_answers.specs.declared.given.GivenGen.{GivenGen}
 use Rattle.abc_cli_answers.specs.declared.given.GivenNone.{GivenNone}
 use Rattle.abc_cli_answers.specs.declared.given.GivenCalls.{GivenCalls}
-use Rattle.abc_cli_answers.specs.Commands.{CommandOption, Setting, setting, word_of, settings_of, fuel, objects, cells, text, frames, stack, seed, methods, times}
-use Rattle.abc_cli_answers.specs.Grammar.{GiveAll, Says, IsWellFormed, CanBegin, IsUsageWord, IsDefault}
+use Rattle.abc_cli_answers.specs.Commands.{CommandOption, OptionSetting, option_setting, word_of, settings_of, fuel, objects_option, cells, text_option, frames, stack, seed, methods, times_option}
+use Rattle.abc_cli_answers.specs.Grammar.{GiveAll, Says, IsWellFormed, CanBeginWords, IsUsageWord, IsDefault}
 use Rattle.abc_cli_answers.specs.Grammar.GiveAll.{none}
-use Rattle.abc_cli_answers.specs.Reading.{after_words, as_command, command_of, plain, run_with, gen_with, none_with, calls_with, run_start, gen_start, calls_start, run_options_of, gen_options_of, calls_options_of, can_take, some_if}
+use Rattle.abc_cli_answers.specs.Reading.{after_words, as_command, command_of, plain_command, run_with, gen_with, none_with, calls_with, run_start, gen_start, calls_start, run_options_of, gen_options_of, calls_options_of, can_take, some_if}
 use Rattle.abc_cli_answers.proofs.Places.{Place, place, Agree, agrees, left_of, put, have_own_names}
 use Rattle.abc_cli_answers.proofs.Steps.{IsRefused, words_taken, words_again, words_refused}
 
@@ -33,9 +33,9 @@ pub record IsAnswer (words : List (List ℕ)) (r : Result Command Usage) : Type 
 
 -- ---- the settings at the end
 
-abbrev finals : List Place → List Setting
+abbrev finals : List Place → List OptionSetting
 finals [] = []
-finals (place o given ∷ places) = setting o (unwrap_or given o.default) ∷ finals places
+finals (place o given ∷ places) = option_setting o (unwrap_or given o.default) ∷ finals places
 
 agrees_final : (given : Option ℕ) (d : ℕ) → agrees given (unwrap_or given d)
 agrees_final None d = tt
@@ -47,25 +47,25 @@ Agree-finals (place o given ∷ places) = (refl, agrees_final given o.default, A
 
 finals_left : (places : List Place) → All IsDefault (left_of places (finals places))
 finals_left [] = λ k d lt. absurd (omega arith)
-finals_left (place o None ∷ places) = All-cons IsDefault (setting o o.default) (left_of places (finals places)) refl (finals_left places)
+finals_left (place o None ∷ places) = All-cons IsDefault (option_setting o o.default) (left_of places (finals places)) refl (finals_left places)
 finals_left (place o (Some n) ∷ places) = finals_left places
 
-finals_only : (places : List Place) (settings : List Setting) → Agree places settings → All IsDefault (left_of places settings) → settings ≡ finals places
+finals_only : (places : List Place) (settings : List OptionSetting) → Agree places settings → All IsDefault (left_of places settings) → settings ≡ finals places
 finals_only [] [] agree all = refl
 finals_only [] (s ∷ settings) agree all = absurd agree
 finals_only (p ∷ places) [] agree all = absurd agree
 finals_only (place o None ∷ places) (s ∷ settings) agree all =
     let default : s.number ≡ s.option.default = All-head IsDefault s (left_of places settings) all in
     let number : s.number ≡ o.default = default ∙ ap (λ (x : CommandOption). x.default) agree.0 in
-    let same : s ≡ setting o o.default = ap (λ (x : CommandOption). setting x s.number) agree.0 ∙ ap (setting o) number in
+    let same : s ≡ option_setting o o.default = ap (λ (x : CommandOption). option_setting x s.number) agree.0 ∙ ap (option_setting o) number in
     let rest = finals_only places settings agree.2 (All-tail IsDefault s (left_of places settings) all) in
-    ap (λ (x : Setting). x ∷ settings) same ∙ ap (λ (l : List Setting). setting o o.default ∷ l) rest
+    ap (λ (x : OptionSetting). x ∷ settings) same ∙ ap (λ (l : List OptionSetting). option_setting o o.default ∷ l) rest
 finals_only (place o (Some n) ∷ places) (s ∷ settings) agree all =
-    let same : s ≡ setting o n = ap (λ (x : CommandOption). setting x s.number) agree.0 ∙ ap (setting o) agree.1 in
+    let same : s ≡ option_setting o n = ap (λ (x : CommandOption). option_setting x s.number) agree.0 ∙ ap (option_setting o) agree.1 in
     let rest = finals_only places settings agree.2 all in
-    ap (λ (x : Setting). x ∷ settings) same ∙ ap (λ (l : List Setting). setting o n ∷ l) rest
+    ap (λ (x : OptionSetting). x ∷ settings) same ∙ ap (λ (l : List OptionSetting). option_setting o n ∷ l) rest
 
-all_given : {settings : List Setting} → GiveAll [] settings → All IsDefault settings
+all_given : {settings : List OptionSetting} → GiveAll [] settings → All IsDefault settings
 all_given (none all) = all
 
 head_same : (x y : List ℕ) (xs ys : List (List ℕ)) → x ∷ xs ≡ y ∷ ys → x ≡ y
@@ -79,17 +79,17 @@ tail_same x y xs ys e = cc
 module _ (G : Type 0) (with : G → List ℕ → ℕ → Option G) (places : G → List Place) (same : (g : G) (name : List ℕ) (n : ℕ) → option_map places (with g name n) ≡ put (places g) name n) (own : (g : G) → have_own_names (places g) ≡ true)
     (start : G) (first : List ℕ) (command : G → Command) (named : (g : G) → word_of (command g) ≡ first) (settled : (g : G) → settings_of (command g) ≡ finals (places g))
     (begins : (c : Command) → word_of c ≡ first → Agree (places start) (settings_of c) × (left_of (places start) (settings_of c) ≡ settings_of c))
-    (back : List Setting → Command) (again : (c : Command) → word_of c ≡ first → back (settings_of c) ≡ c) where
+    (back : List OptionSetting → Command) (again : (c : Command) → word_of c ≡ first → back (settings_of c) ≡ c) where
   one_says : (words : List (List ℕ)) (g : G) (i : ℕ) → after_words with start i words ≡ Ok g → Says (first ∷ words) (command g)
   one_says words g i e =
-      let agree = subst (λ (l : List Setting). Agree (places g) l) (sym (settled g)) (Agree-finals (places g)) in
-      let left = subst (λ (l : List Setting). All IsDefault (left_of (places g) l)) (sym (settled g)) (finals_left (places g)) in
+      let agree = subst (λ (l : List OptionSetting). Agree (places g) l) (sym (settled g)) (Agree-finals (places g)) in
+      let left = subst (λ (l : List OptionSetting). All IsDefault (left_of (places g) l)) (sym (settled g)) (finals_left (places g)) in
       let b = begins (command g) (named g) in
       let t = words_again G with places same own words start g i (settings_of (command g)) [] e agree (none left) in
       record {
         options = words;
         parts = ap (λ (x : List ℕ). x ∷ words) (sym (named g));
-        settings = subst (λ (l : List Setting). GiveAll words l) b.1 (subst (λ (ws : List (List ℕ)). GiveAll ws (left_of (places start) (settings_of (command g)))) (append-nil words) t.1);
+        settings = subst (λ (l : List OptionSetting). GiveAll words l) b.1 (subst (λ (ws : List (List ℕ)). GiveAll ws (left_of (places start) (settings_of (command g)))) (append-nil words) t.1);
       }
 
   -- what begins with the command's word and goes on so
@@ -98,7 +98,7 @@ module _ (G : Type 0) (with : G → List ℕ → ℕ → Option G) (places : G �
       let word_is = sym (head_same _ _ _ _ s.parts) in
       let b = begins c word_is in
       let options = subst (λ (ws : List (List ℕ)). GiveAll ws (settings_of c)) (sym (tail_same _ _ _ _ s.parts)) s.settings in
-      (b.0, subst (λ (l : List Setting). GiveAll rest l) (sym b.1) options, word_is)
+      (b.0, subst (λ (l : List OptionSetting). GiveAll rest l) (sym b.1) options, word_is)
 
   one_only : (words : List (List ℕ)) (g : G) (i : ℕ) (c : Command) → after_words with start i words ≡ Ok g → Says (first ∷ words) c → c ≡ command g
   one_only words g i c e s =
@@ -112,13 +112,13 @@ module _ (G : Type 0) (with : G → List ℕ → ℕ → Option G) (places : G �
       let front : take (1 + r.count) (first ∷ words) ≡ first ∷ take r.count words = rw one-add refl in
       let longer : take (1 + r.count + 1) (first ∷ words) ≡ first ∷ take (suc r.count) words = rw (one-add, add-one) refl in
       let said = one_says (take r.count words) r.before 1 r.taken in
-      let can : CanBegin (first ∷ take r.count words) = ([], (command r.before, subst (λ (ws : List (List ℕ)). Says ws (command r.before)) (sym (append-nil (first ∷ take r.count words))) said)) in (
+      let can : CanBeginWords (first ∷ take r.count words) = ([], (command r.before, subst (λ (ws : List (List ℕ)). Says ws (command r.before)) (sym (append-nil (first ∷ take r.count words))) said)) in (
         1 + r.count,
         r.is,
         record {
-          before = subst CanBegin (sym front) can;
+          before = subst CanBeginWords (sym front) can;
           stops = λ b.
-              let k : CanBegin (first ∷ take (suc r.count) words) = subst CanBegin longer b in
+              let k : CanBeginWords (first ∷ take (suc r.count) words) = subst CanBeginWords longer b in
               let v = gave (take (suc r.count) words ++ k.0) k.1.0 k.1.1 in
               r.stops (settings_of k.1.0) k.0 v.0 v.1;
         },
@@ -151,9 +151,9 @@ no_places g = []
 plain_begins : (command c : Command) → settings_of command ≡ [] → c ≡ command → Agree [] (settings_of c) × (left_of [] (settings_of c) ≡ settings_of c)
 plain_begins command c empty is =
     let Q : Command → Type 0 = λ d. Agree [] (settings_of d) × (left_of [] (settings_of d) ≡ settings_of d) in
-    subst Q (sym is) (subst (λ (l : List Setting). Agree [] l) (sym empty) tt, sym empty)
+    subst Q (sym is) (subst (λ (l : List OptionSetting). Agree [] l) (sym empty) tt, sym empty)
 
-IsAnswer-plain : (command : Command) → settings_of command ≡ [] → ((c : Command) → word_of c ≡ word_of command → c ≡ command) → (words : List (List ℕ)) → IsAnswer (word_of command ∷ words) (plain command words)
+IsAnswer-plain : (command : Command) → settings_of command ≡ [] → ((c : Command) → word_of c ≡ word_of command → c ≡ command) → (words : List (List ℕ)) → IsAnswer (word_of command ∷ words) (plain_command command words)
 IsAnswer-plain command empty only words =
     IsAnswer-one GivenNone none_with no_places (λ g name n. refl) (λ g. refl) (record {}) (word_of command) (λ _. command) (λ g. refl) (λ g. empty) (λ c e. plain_begins command c empty (only c e)) (λ _. command) (λ c e. sym (only c e)) words
 
@@ -195,27 +195,27 @@ choice places wrap p true false g after rest more here later = refl
 choice places wrap p false test g after rest more here later = later ∙ wrapped wrap p more
 
 abbrev run_places : GivenRun → List Place
-run_places g = place fuel g.fuel ∷ place objects g.objects ∷ place cells g.cells ∷ place text g.text ∷ place frames g.frames ∷ place stack g.stack ∷ []
+run_places g = place fuel g.fuel ∷ place objects_option g.objects ∷ place cells g.cells ∷ place text_option g.text ∷ place frames g.frames ∷ place stack g.stack ∷ []
 
 run_same : (g : GivenRun) (name : List ℕ) (n : ℕ) → option_map run_places (run_with g name n) ≡ put (run_places g) name n
 run_same g name n =
-    let stacks = choice run_places (λ l. place fuel g.fuel ∷ place objects g.objects ∷ place cells g.cells ∷ place text g.text ∷ place frames g.frames ∷ l) (place stack g.stack) (bytes_eq name stack.name) (can_take stack g.stack n) (record g { stack = Some n }) (place stack (Some n) ∷ []) None None refl refl in
-    let framed = choice run_places (λ l. place fuel g.fuel ∷ place objects g.objects ∷ place cells g.cells ∷ place text g.text ∷ l) (place frames g.frames) (bytes_eq name frames.name) (can_take frames g.frames n) (record g { frames = Some n }) (place frames (Some n) ∷ place stack g.stack ∷ []) _ _ refl stacks in
-    let texts = choice run_places (λ l. place fuel g.fuel ∷ place objects g.objects ∷ place cells g.cells ∷ l) (place text g.text) (bytes_eq name text.name) (can_take text g.text n) (record g { text = Some n }) (place text (Some n) ∷ place frames g.frames ∷ place stack g.stack ∷ []) _ _ refl framed in
-    let celled = choice run_places (λ l. place fuel g.fuel ∷ place objects g.objects ∷ l) (place cells g.cells) (bytes_eq name cells.name) (can_take cells g.cells n) (record g { cells = Some n }) (place cells (Some n) ∷ place text g.text ∷ place frames g.frames ∷ place stack g.stack ∷ []) _ _ refl texts in
-    let objected = choice run_places (λ l. place fuel g.fuel ∷ l) (place objects g.objects) (bytes_eq name objects.name) (can_take objects g.objects n) (record g { objects = Some n }) (place objects (Some n) ∷ place cells g.cells ∷ place text g.text ∷ place frames g.frames ∷ place stack g.stack ∷ []) _ _ refl celled in
-    let fueled = choice run_places (λ l. l) (place fuel g.fuel) (bytes_eq name fuel.name) (can_take fuel g.fuel n) (record g { fuel = Some n }) (place fuel (Some n) ∷ place objects g.objects ∷ place cells g.cells ∷ place text g.text ∷ place frames g.frames ∷ place stack g.stack ∷ []) _ _ refl objected in
+    let stacks = choice run_places (λ l. place fuel g.fuel ∷ place objects_option g.objects ∷ place cells g.cells ∷ place text_option g.text ∷ place frames g.frames ∷ l) (place stack g.stack) (bytes_eq name stack.name) (can_take stack g.stack n) (record g { stack = Some n }) (place stack (Some n) ∷ []) None None refl refl in
+    let framed = choice run_places (λ l. place fuel g.fuel ∷ place objects_option g.objects ∷ place cells g.cells ∷ place text_option g.text ∷ l) (place frames g.frames) (bytes_eq name frames.name) (can_take frames g.frames n) (record g { frames = Some n }) (place frames (Some n) ∷ place stack g.stack ∷ []) _ _ refl stacks in
+    let texts = choice run_places (λ l. place fuel g.fuel ∷ place objects_option g.objects ∷ place cells g.cells ∷ l) (place text_option g.text) (bytes_eq name text_option.name) (can_take text_option g.text n) (record g { text = Some n }) (place text_option (Some n) ∷ place frames g.frames ∷ place stack g.stack ∷ []) _ _ refl framed in
+    let celled = choice run_places (λ l. place fuel g.fuel ∷ place objects_option g.objects ∷ l) (place cells g.cells) (bytes_eq name cells.name) (can_take cells g.cells n) (record g { cells = Some n }) (place cells (Some n) ∷ place text_option g.text ∷ place frames g.frames ∷ place stack g.stack ∷ []) _ _ refl texts in
+    let objected = choice run_places (λ l. place fuel g.fuel ∷ l) (place objects_option g.objects) (bytes_eq name objects_option.name) (can_take objects_option g.objects n) (record g { objects = Some n }) (place objects_option (Some n) ∷ place cells g.cells ∷ place text_option g.text ∷ place frames g.frames ∷ place stack g.stack ∷ []) _ _ refl celled in
+    let fueled = choice run_places (λ l. l) (place fuel g.fuel) (bytes_eq name fuel.name) (can_take fuel g.fuel n) (record g { fuel = Some n }) (place fuel (Some n) ∷ place objects_option g.objects ∷ place cells g.cells ∷ place text_option g.text ∷ place frames g.frames ∷ place stack g.stack ∷ []) _ _ refl objected in
     fueled ∙ option_map_id (put (run_places g) name n)
 
-abbrev number_at : List Setting → ℕ → ℕ
+abbrev number_at : List OptionSetting → ℕ → ℕ
 number_at [] i = 0
 number_at (s ∷ settings) zero = s.number
 number_at (s ∷ settings) (suc i) = number_at settings i
 
-abbrev run_options : List Setting → RunOptions
+abbrev run_options : List OptionSetting → RunOptions
 run_options l = record { fuel = number_at l 0; objects = number_at l 1; cells = number_at l 2; text = number_at l 3; frames = number_at l 4; stack = number_at l 5 }
 
-abbrev run_back : List Setting → Command
+abbrev run_back : List OptionSetting → Command
 run_back l = commands.Run (run_options l)
 
 run_begins : (c : Command) → word_of c ≡ codes "run" → Agree (run_places run_start) (settings_of c) × (left_of (run_places run_start) (settings_of c) ≡ settings_of c)
@@ -230,7 +230,7 @@ IsAnswer-run : (words : List (List ℕ)) → IsAnswer (codes "run" ∷ words) (a
 IsAnswer-run words =
     IsAnswer-one GivenRun run_with run_places run_same (λ g. refl) run_start (codes "run") (λ g. commands.Run (run_options_of g)) (λ g. refl) (λ g. refl) run_begins run_back run_again words
 
-abbrev log_back : List Setting → Command
+abbrev log_back : List OptionSetting → Command
 log_back l = commands.Log (run_options l)
 
 log_begins : (c : Command) → word_of c ≡ codes "log" → Agree (run_places run_start) (settings_of c) × (left_of (run_places run_start) (settings_of c) ≡ settings_of c)
@@ -254,7 +254,7 @@ gen_same g name n =
     let seeded = choice gen_places (λ l. l) (place seed g.seed) (bytes_eq name seed.name) (can_take seed g.seed n) (record g { seed = Some n }) (place seed (Some n) ∷ place methods g.methods ∷ []) _ _ refl last in
     seeded ∙ option_map_id (put (gen_places g) name n)
 
-abbrev gen_back : List Setting → Command
+abbrev gen_back : List OptionSetting → Command
 gen_back l = commands.Gen (record { seed = number_at l 0; methods = number_at l 1 })
 
 gen_begins : (c : Command) → word_of c ≡ codes "gen" → Agree (gen_places gen_start) (settings_of c) × (left_of (gen_places gen_start) (settings_of c) ≡ settings_of c)
@@ -270,20 +270,20 @@ IsAnswer-gen words =
     IsAnswer-one GivenGen gen_with gen_places gen_same (λ g. refl) gen_start (codes "gen") (λ g. commands.Gen (gen_options_of g)) (λ g. refl) (λ g. refl) gen_begins gen_back gen_again words
 
 abbrev calls_places : GivenCalls → List Place
-calls_places g = place times g.times ∷ run_places g.run
+calls_places g = place times_option g.times ∷ run_places g.run
 
 -- what the options of the run change
-calls_run : (g : GivenCalls) (o : Option GivenRun) → option_map calls_places (option_map (λ run. record g { run = run }) o) ≡ option_map (λ (l : List Place). place times g.times ∷ l) (option_map run_places o)
+calls_run : (g : GivenCalls) (o : Option GivenRun) → option_map calls_places (option_map (λ run. record g { run = run }) o) ≡ option_map (λ (l : List Place). place times_option g.times ∷ l) (option_map run_places o)
 calls_run g None = refl
 calls_run g (Some run) = refl
 
 calls_same : (g : GivenCalls) (name : List ℕ) (n : ℕ) → option_map calls_places (calls_with g name n) ≡ put (calls_places g) name n
 calls_same g name n =
-    let rest = calls_run g (run_with g.run name n) ∙ ap (option_map (λ (l : List Place). place times g.times ∷ l)) (run_same g.run name n) in
-    let first = choice calls_places (λ l. l) (place times g.times) (bytes_eq name times.name) (can_take times g.times n) (record g { times = Some n }) (place times (Some n) ∷ run_places g.run) _ (put (run_places g.run) name n) refl rest in
+    let rest = calls_run g (run_with g.run name n) ∙ ap (option_map (λ (l : List Place). place times_option g.times ∷ l)) (run_same g.run name n) in
+    let first = choice calls_places (λ l. l) (place times_option g.times) (bytes_eq name times_option.name) (can_take times_option g.times n) (record g { times = Some n }) (place times_option (Some n) ∷ run_places g.run) _ (put (run_places g.run) name n) refl rest in
     first ∙ option_map_id (put (calls_places g) name n)
 
-abbrev calls_back : List Setting → Command
+abbrev calls_back : List OptionSetting → Command
 calls_back l = commands.Calls (record {
   run = record { fuel = number_at l 1; objects = number_at l 2; cells = number_at l 3; text = number_at l 4; frames = number_at l 5; stack = number_at l 6 };
   times = number_at l 0;
@@ -309,7 +309,7 @@ IsAnswer-if w literal words true x y is here later =
     subst (λ (v : List ℕ). IsAnswer (v ∷ words) x) (sym same) here
 IsAnswer-if w literal words false x y is here later = later (λ e. let same = (bytes_eq-Decides w literal).1 e in absurd cc)
 
-begin_with_nothing : CanBegin []
+begin_with_nothing : CanBeginWords []
 begin_with_nothing = (codes "canon" ∷ [], (commands.Canon, record { options = []; parts = refl; settings = none (λ k d lt. absurd (omega arith)) }))
 
 no_word_of : (w : List ℕ) → w ≢ codes "canon" → w ≢ codes "dis" → w ≢ codes "asm" → w ≢ codes "check" → w ≢ codes "tidy" → w ≢ codes "replay" → w ≢ codes "run" → w ≢ codes "log" → w ≢ codes "gen" → w ≢ codes "calls" → (c : Command) → w ≢ word_of c
@@ -360,7 +360,7 @@ IsAnswer-command (w ∷ words) =
 pub not_both : (words : List (List ℕ)) (i : ℕ) → IsUsageWord words i → ¬ IsWellFormed words
 not_both words i u s = u.stops (drop (i + 1) words, subst IsWellFormed (sym (take-append-drop (i + 1) words)) s)
 
-begin_less : (words : List (List ℕ)) (i j : ℕ) → i ≤ j → CanBegin (take j words) → CanBegin (take i words)
+begin_less : (words : List (List ℕ)) (i j : ℕ) → i ≤ j → CanBeginWords (take j words) → CanBeginWords (take i words)
 begin_less words i j le b =
     let front : take i (take j words) ≡ take i words = take-take i j words le in
     let whole : take i words ++ (drop i (take j words) ++ b.0) ≡ take j words ++ b.0
@@ -382,7 +382,7 @@ none_says_nothing words e s = let parts = s.1.parts in absurd cc
 pub none_has_no_usage_word : (words : List (List ℕ)) (i : ℕ) → IsUsageWord words i → words ≢ []
 none_has_no_usage_word words i u e =
     let short : take (i + 1) words ≡ [] = ap (take (i + 1)) e ∙ take_all (i + 1) [] (omega arith) in
-    u.stops (subst CanBegin (sym short) begin_with_nothing)
+    u.stops (subst CanBeginWords (sym short) begin_with_nothing)
 
 -- ---- the answer and what holds of the words
 

@@ -1,7 +1,7 @@
 -- Lines, piece by piece.
 use Rattle.std.proofs.Common.{◌≡◌, ℕ, ◌++◌, ◌∷◌, [], List, ap, ap₂, sym, ◌∙◌, append_assoc}
 use Rattle.std.specs.Prelude.{codes, decimal}
-use Rattle.abc_cli_answers.specs.Lines.{code_text, line, place_text}
+use Rattle.abc_cli_answers.specs.Lines.{code_text, told_line, place_text}
 
 pub pieces_are : (a b c d word digits : List ℕ) → a ≡ [] → b ≡ a ++ word → c ≡ b ++ digits → d ≡ c ++ 10 ∷ [] → d ≡ word ++ digits ++ 10 ∷ []
 pieces_are a b c d word digits none first more last =
@@ -9,8 +9,8 @@ pieces_are a b c d word digits none first more last =
 
 -- the line of an instruction, piece by piece
 pub code_line : (m o : ℕ) (first second name : List ℕ) → first ≡ decimal m → second ≡ decimal o
-    → ((codes "abc: method " ++ first ++ codes " offset ") ++ (second ++ codes ": " ++ name)) ++ 10 ∷ [] ≡ line (code_text m o name)
-unfolding line code_text
+    → ((codes "abc: method " ++ first ++ codes " offset ") ++ (second ++ codes ": " ++ name)) ++ 10 ∷ [] ≡ told_line (code_text m o name)
+unfolding told_line code_text
 code_line m o first second name e f =
     let front = first ++ codes " offset " in
     ap (λ (xs : List ℕ). (codes "abc: method " ++ xs) ++ (10 ∷ []))
@@ -21,8 +21,8 @@ code_line m o first second name e f =
 
 -- the line of a place, piece by piece
 pub place_line : (n : ℕ) (kind digits name : List ℕ) → digits ≡ decimal n
-    → ((codes "abc: " ++ kind ++ codes " ") ++ (digits ++ codes ": " ++ name)) ++ 10 ∷ [] ≡ line (place_text kind n name)
-unfolding line place_text
+    → ((codes "abc: " ++ kind ++ codes " ") ++ (digits ++ codes ": " ++ name)) ++ 10 ∷ [] ≡ told_line (place_text kind n name)
+unfolding told_line place_text
 place_line n kind digits name e =
     let front = kind ++ codes " " in
     ap (λ (xs : List ℕ). (codes "abc: " ++ xs) ++ (10 ∷ []))

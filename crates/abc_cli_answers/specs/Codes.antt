@@ -3,7 +3,7 @@ use Rattle.std.specs.Prelude.{ℕ, ℤ, ◌+◌, ◌%◌, pos, nat_eq, if◌then
 use Rattle.std.specs.List.{flat_map, range_with_len}
 use Rattle.abc_file_types.specs.declared.code.Instr.{Instr}
 use Rattle.abc_file_types.specs.declared.code.Instr.TheVariants as instrs
-use Rattle.abc_cli_answers.specs.Draws.{after, given_by}
+use Rattle.abc_cli_answers.specs.Draws.{draws_after, drawn_number}
 use Rattle.abc_file_types.specs.declared.op.TheConstants as op
 
 -- ---- the instructions, by their mnemonics
@@ -62,23 +62,23 @@ callpropvoid name arguments = instrs.Two op.CALLPROPVOID name arguments
 -- ---- the first body calls each function with what the one before gave, and traces what the last gave
 
 -- Function i has the name i + 2.
-abbrev pub call_of : ℕ → List Instr
-call_of i = getlocal_0 ∷ getlocal_1 ∷ callproperty (i + 2) 1 ∷ convert_i ∷ setlocal_1 ∷ []
+abbrev pub call_code : ℕ → List Instr
+call_code i = getlocal_0 ∷ getlocal_1 ∷ callproperty (i + 2) 1 ∷ convert_i ∷ setlocal_1 ∷ []
 
 abbrev pub first_code : ℕ → List Instr
 first_code m =
     (getlocal_0 ∷ pushscope ∷ pushbyte (pos 1) ∷ setlocal_1 ∷ [])
-    ++ flat_map call_of (range_with_len 1 m)
+    ++ flat_map call_code (range_with_len 1 m)
     ++ (findpropstrict 1 ∷ getlocal_1 ∷ callpropvoid 1 1 ∷ returnvoid ∷ [])
 
 -- ---- the others repeat one operation
 
 -- add_i, subtract_i, multiply_i or bitxor
-abbrev pub operation_of : ℕ → ℕ
-operation_of n = if nat_eq n 0 then op.ADD_I else if nat_eq n 1 then op.SUBTRACT_I else if nat_eq n 2 then op.MULTIPLY_I else op.BITXOR
+abbrev pub drawn_operation : ℕ → ℕ
+drawn_operation n = if nat_eq n 0 then op.ADD_I else if nat_eq n 1 then op.SUBTRACT_I else if nat_eq n 2 then op.MULTIPLY_I else op.BITXOR
 
-abbrev pub repeated : ℤ → ℤ → ℕ → List Instr
-repeated rounds operand op =
+abbrev pub loop_code : ℤ → ℤ → ℕ → List Instr
+loop_code rounds operand op =
     getlocal_1 ∷ convert_i ∷ setlocal_2 ∷ pushbyte rounds ∷ setlocal_1
     ∷ label ∷ getlocal_2 ∷ pushshort operand ∷ instrs.Plain op ∷ setlocal_2
     ∷ declocal_i 1 ∷ getlocal_1 ∷ pushbyte (pos 0) ∷ ifgt 5 ∷ getlocal_2 ∷ returnvalue ∷ []
@@ -86,4 +86,4 @@ repeated rounds operand op =
 -- the code for which three draws are made from this number on
 abbrev pub drawn_code : ℕ → List Instr
 drawn_code x =
-    repeated (pos (given_by (after x 1) % 8 + 1)) (pos (given_by (after x 2) % 32768)) (operation_of (given_by (after x 3) % 4))
+    loop_code (pos (drawn_number (draws_after x 1) % 8 + 1)) (pos (drawn_number (draws_after x 2) % 32768)) (drawn_operation (drawn_number (draws_after x 3) % 4))

@@ -14,14 +14,14 @@ pub record CommandOption : Type 0 where
 abbrev pub fuel : CommandOption
 fuel = record { name = codes "fuel"; least = 0; greatest = 4294967295; default = 10000000 }
 
-abbrev pub objects : CommandOption
-objects = record { name = codes "objects"; least = 0; greatest = 16777216; default = 100000 }
+abbrev pub objects_option : CommandOption
+objects_option = record { name = codes "objects"; least = 0; greatest = 16777216; default = 100000 }
 
 abbrev pub cells : CommandOption
 cells = record { name = codes "cells"; least = 0; greatest = 16777216; default = 1000000 }
 
-abbrev pub text : CommandOption
-text = record { name = codes "text"; least = 0; greatest = 16777216; default = 4000000 }
+abbrev pub text_option : CommandOption
+text_option = record { name = codes "text"; least = 0; greatest = 16777216; default = 4000000 }
 
 abbrev pub frames : CommandOption
 frames = record { name = codes "frames"; least = 0; greatest = 16777216; default = 1000 }
@@ -35,16 +35,16 @@ seed = record { name = codes "seed"; least = 0; greatest = 4294967295; default =
 abbrev pub methods : CommandOption
 methods = record { name = codes "methods"; least = 1; greatest = 10000; default = 100 }
 
-abbrev pub times : CommandOption
-times = record { name = codes "times"; least = 0; greatest = 10000; default = 1 }
+abbrev pub times_option : CommandOption
+times_option = record { name = codes "times"; least = 0; greatest = 10000; default = 1 }
 
 -- an option with its number
-pub record Setting : Type 0 where
+pub record OptionSetting : Type 0 where
   pub option : CommandOption
   pub number : ℕ
 
-abbrev pub setting : CommandOption → ℕ → Setting
-setting option number = record { option = option; number = number }
+abbrev pub option_setting : CommandOption → ℕ → OptionSetting
+option_setting option number = record { option = option; number = number }
 
 -- the word of a command
 abbrev pub word_of : Command → List ℕ
@@ -59,18 +59,18 @@ word_of (commands.Calls _) = codes "calls"
 word_of (commands.Log _) = codes "log"
 word_of commands.Replay = codes "replay"
 
-abbrev pub run_settings : RunOptions → List Setting
-run_settings o = setting fuel o.fuel ∷ setting objects o.objects ∷ setting cells o.cells ∷ setting text o.text ∷ setting frames o.frames ∷ setting stack o.stack ∷ []
+abbrev pub run_settings : RunOptions → List OptionSetting
+run_settings o = option_setting fuel o.fuel ∷ option_setting objects_option o.objects ∷ option_setting cells o.cells ∷ option_setting text_option o.text ∷ option_setting frames o.frames ∷ option_setting stack o.stack ∷ []
 
 -- the options of a command, each with its number
-abbrev pub settings_of : Command → List Setting
+abbrev pub settings_of : Command → List OptionSetting
 settings_of commands.Canon = []
 settings_of commands.Dis = []
 settings_of commands.Asm = []
 settings_of commands.Check = []
 settings_of commands.Tidy = []
 settings_of (commands.Run o) = run_settings o
-settings_of (commands.Gen o) = setting seed o.seed ∷ setting methods o.methods ∷ []
-settings_of (commands.Calls o) = setting times o.times ∷ run_settings o.run
+settings_of (commands.Gen o) = option_setting seed o.seed ∷ option_setting methods o.methods ∷ []
+settings_of (commands.Calls o) = option_setting times_option o.times ∷ run_settings o.run
 settings_of (commands.Log o) = run_settings o
 settings_of commands.Replay = []

@@ -6,10 +6,10 @@ abbrev pub next_of : ℕ → ℕ
 next_of x = (x * 1664525 + 1013904223) % 2 ^ 32
 
 -- what a draw gives that leaves this number
-abbrev pub given_by : ℕ → ℕ
-given_by x = x / 65536
+abbrev pub drawn_number : ℕ → ℕ
+drawn_number x = x / 65536
 
 -- the generator's number after so many draws
-abbrev pub after : ℕ → ℕ → ℕ
-after seed zero = seed
-after seed (suc n) = next_of (after seed n)
+abbrev pub draws_after : ℕ → ℕ → ℕ
+draws_after seed zero = seed
+draws_after seed (suc n) = next_of (draws_after seed n)

@@ -7,8 +7,8 @@ use Rattle.abc_base.specs.Sinks.{GrowsByFront}
 use Rattle.abc_base.specs.declared.status.Status.{Status}
 use Rattle.abc_base.specs.declared.status.Status.TheVariants as status
 use Rattle.abc_file.specs.Reading.{IsUsedUp}
-use Rattle.abc_cli_answers.specs.Lines.{line, read_fault_text, write_fault_text, no_memory_text}
-use Rattle.abc_cli_answers.specs.Answers.{Answer, told}
+use Rattle.abc_cli_answers.specs.Lines.{told_line, read_fault_text, write_fault_text, no_memory_text}
+use Rattle.abc_cli_answers.specs.Answers.{Answer, line_answer}
 
 -- A stream before and after: the bytes that a source has left, or that were written to a sink, where it tells them, and its count of faults.
 pub record Channel : Type 0 where
@@ -42,44 +42,44 @@ GivesLine err a s = (Got err a.err × (s ≡ a.status)) ⊎ (HasFailed err × Go
 
 -- the bytes were written and nothing else; or writing them failed, and the line says so
 abbrev pub GivesBytes : Channel → Channel → List ℕ → Status → Type 0
-GivesBytes out err bytes s = (Got out bytes × Got err [] × (s ≡ status.Done)) ⊎ (HasFailed out × GotFront out bytes × GivesLine err (told status.WriteFault write_fault_text) s)
+GivesBytes out err bytes s = (Got out bytes × Got err [] × (s ≡ status.Done)) ⊎ (HasFailed out × GotFront out bytes × GivesLine err (line_answer status.WriteFault write_fault_text) s)
 
 -- the bytes were written, and then the answer's line, or that failed; or writing the bytes failed, and the line says so
 abbrev pub GivesAll : Channel → Channel → List ℕ → Answer → Status → Type 0
-GivesAll out err bytes a s = (Got out bytes × GivesLine err a s) ⊎ (HasFailed out × GotFront out bytes × GivesLine err (told status.WriteFault write_fault_text) s)
+GivesAll out err bytes a s = (Got out bytes × GivesLine err a s) ⊎ (HasFailed out × GotFront out bytes × GivesLine err (line_answer status.WriteFault write_fault_text) s)
 
 -- The run ends with an answer of the outcome, written whole; or with a fault of the source, of a sink or of memory, each with its cause and with what stands.
 pub data IsEnd (Outcome : Answer → Type 0) (SourceFailed : Type 0) (out err : Channel) : Status → Type 0 where
   defined : (a : Answer) → Outcome a → Got out a.out → Got err a.err → IsEnd Outcome SourceFailed out err a.status
-  read_fault : SourceFailed → Got out [] → Got err (line read_fault_text) → IsEnd Outcome SourceFailed out err status.ReadFault
-  no_memory : Got out [] → Got err (line no_memory_text) → IsEnd Outcome SourceFailed out err status.NoMemory
+  read_fault : SourceFailed → Got out [] → Got err (told_line read_fault_text) → IsEnd Outcome SourceFailed out err status.ReadFault
+  no_memory : Got out [] → Got err (told_line no_memory_text) → IsEnd Outcome SourceFailed out err status.NoMemory
   -- writing to `out` failed, and the line that says so was written
-  out_failed : (a : Answer) → Outcome a → HasFailed out → GotFront out a.out → Got err (line write_fault_text) → IsEnd Outcome SourceFailed out err status.WriteFault
+  out_failed : (a : Answer) → Outcome a → HasFailed out → GotFront out a.out → Got err (told_line write_fault_text) → IsEnd Outcome SourceFailed out err status.WriteFault
   -- writing to `out` failed, and then writing the line that says so
-  both_failed : (a : Answer) → Outcome a → HasFailed out → HasFailed err → GotFront out a.out → GotFront err (line write_fault_text) → IsEnd Outcome SourceFailed out err status.WriteFault
+  both_failed : (a : Answer) → Outcome a → HasFailed out → HasFailed err → GotFront out a.out → GotFront err (told_line write_fault_text) → IsEnd Outcome SourceFailed out err status.WriteFault
   -- writing an answer's line failed
   line_failed : (a : Answer) → Outcome a → HasFailed err → Got out a.out → GotFront err a.err → IsEnd Outcome SourceFailed out err status.WriteFault
   -- writing the line of a failed read failed
-  read_line_failed : SourceFailed → HasFailed err → Got out [] → GotFront err (line read_fault_text) → IsEnd Outcome SourceFailed out err status.WriteFault
+  read_line_failed : SourceFailed → HasFailed err → Got out [] → GotFront err (told_line read_fault_text) → IsEnd Outcome SourceFailed out err status.WriteFault
   -- writing the line of missing memory failed
-  memory_line_failed : HasFailed err → Got out [] → GotFront err (line no_memory_text) → IsEnd Outcome SourceFailed out err status.WriteFault
+  memory_line_failed : HasFailed err → Got out [] → GotFront err (told_line no_memory_text) → IsEnd Outcome SourceFailed out err status.WriteFault
 
 -- the run of a source and two sinks ends by an outcome of the source's bytes
 abbrev pub Ends : (Option (List ℕ) → Answer → Type 0) → Channel → Channel → Channel → Status → Type 0
 Ends Outcome source out err = IsEnd (Outcome source.before) (HasFailed source) out err
 
 -- the statuses of a run, which begins where the input was read to its end, and that of success
-abbrev pub IsRead : Status → Type 0
-IsRead status.Done = Unit {0}
-IsRead status.Uncaught = Unit {0}
-IsRead status.Profile = Unit {0}
-IsRead status.Fuel = Unit {0}
-IsRead status.Limit = Unit {0}
-IsRead other = ⊥
+abbrev pub IsRunStatus : Status → Type 0
+IsRunStatus status.Done = Unit {0}
+IsRunStatus status.Uncaught = Unit {0}
+IsRunStatus status.Profile = Unit {0}
+IsRunStatus status.Fuel = Unit {0}
+IsRunStatus status.Limit = Unit {0}
+IsRunStatus other = ⊥
 
 -- with these, nothing of the input is left
 abbrev pub UsesUp : Channel → Status → Type 0
-UsesUp source s = IsRead s → IsUsedUp source.before source.after
+UsesUp source s = IsRunStatus s → IsUsedUp source.before source.after
 
 -- ---- runs, whose output is written as it comes
 
@@ -88,4 +88,4 @@ UsesUp source s = IsRead s → IsUsedUp source.before source.after
 pub data RunsTo (Outcome : Answer → Type 0) (SourceFailed : Type 0) (out err : Channel) (s : Status) : Type 0 where
   done : (a : Answer) → Outcome a → a.status ≡ status.Done → Got out a.out → Got err [] → s ≡ status.Done → RunsTo Outcome SourceFailed out err s
   other : IsEnd (λ a. Outcome a × (a.status ≢ status.Done)) SourceFailed out err s → RunsTo Outcome SourceFailed out err s
-  cut : (a : Answer) → Outcome a → HasFailed out → GotFront out a.out → GivesLine err (told status.WriteFault write_fault_text) s → RunsTo Outcome SourceFailed out err s
+  cut : (a : Answer) → Outcome a → HasFailed out → GotFront out a.out → GivesLine err (line_answer status.WriteFault write_fault_text) s → RunsTo Outcome SourceFailed out err s

@@ -1,6 +1,6 @@
 -- The lines that the program writes where its status is not 0 (profile: docs/PROGRAM.md, "Words" and "Statuses").
 use Rattle.std.specs.Prelude.{ℕ, List, [], ◌∷◌, ◌++◌, codes, decimal}
-use Rattle.abc_base.specs.Escapes.{escaped}
+use Rattle.abc_base.specs.Escapes.{with_escapes}
 use Rattle.abc_file_types.specs.Part.{Refusal, refusal}
 use Rattle.abc_file_types.specs.Reasons.{reason_name}
 use Rattle.abc_heap_store.specs.declared.records.Limit.{Limit}
@@ -8,23 +8,23 @@ use Rattle.abc_log.specs.Lines.{limit_name}
 use Rattle.abc_text_lines.specs.Rows.{Fault}
 use Rattle.abc_link_names.specs.declared.items.Item.{Item}
 use Rattle.abc_link_names.specs.declared.items.LinkRule.{LinkRule}
-use Rattle.abc_link_names.specs.Items.{kind_name, rule_name}
-use Rattle.abc_text_lines.specs.Reasons.{reason_name as asm_reason_name}
+use Rattle.abc_link_names.specs.Items.{kind_name, link_rule_name}
+use Rattle.abc_text_lines.specs.Reasons.{asm_reason_name}
 use Rattle.abc_tidy_entries.specs.declared.error.TidyRule.{TidyRule}
 use Rattle.abc_tidy_entries.specs.declared.error.TidyRule.TheVariants as tidying
-use Rattle.abc_tidy_entries.specs.Rules.{rule_name as tidy_rule_name}
+use Rattle.abc_tidy_entries.specs.Rules.{tidy_rule_name}
 use Rattle.abc_verify_typing.specs.RuleNames.{rule_name as verify_rule_name}
 use Rattle.abc_verify_typing.specs.declared.rule.VerifyRule.{VerifyRule}
 use Rattle.abc_verify.specs.declared.verified_error.VerifiedError.{VerifiedError}
 use Rattle.abc_verify.specs.declared.verified_error.VerifiedError.TheVariants as errors
 
 -- `abc: `, a text, and a line feed
-unfoldable pub line : List ℕ → List ℕ
-line text = codes "abc: " ++ text ++ 10 ∷ []
+unfoldable pub told_line : List ℕ → List ℕ
+told_line text = codes "abc: " ++ text ++ 10 ∷ []
 
 -- words outside the grammar: the word at which they go wrong
 unfoldable pub usage_text : List ℕ → List ℕ
-usage_text word = codes "usage: " ++ escaped word
+usage_text word = codes "usage: " ++ with_escapes word
 
 -- there are no words
 unfoldable pub no_command_text : List ℕ
@@ -44,7 +44,7 @@ fault_text f = place_text (codes "line") f.line (asm_reason_name f.reason)
 
 -- a rule of linking, and the item that breaks it
 abbrev pub item_text : Item → LinkRule → List ℕ
-item_text i rule = place_text (kind_name i.kind) i.index (rule_name rule)
+item_text i rule = place_text (kind_name i.kind) i.index (link_rule_name rule)
 
 -- what kind of thing breaks a rule of tidying
 abbrev pub kind_of_tidy : TidyRule → List ℕ
@@ -94,7 +94,7 @@ write_fault_text = codes "write fault"
 
 -- nothing caught what was thrown, which has this name
 unfoldable pub uncaught_text : List ℕ → List ℕ
-uncaught_text name = codes "uncaught " ++ escaped name
+uncaught_text name = codes "uncaught " ++ with_escapes name
 
 unfoldable pub fuel_spent_text : List ℕ
 fuel_spent_text = codes "fuel spent"

@@ -14,6 +14,6 @@ unfoldable pub count_line : List ℕ → ℕ → List ℕ
 count_line word n = word ++ codes " " ++ decimal n ++ 10 ∷ []
 
 -- the length of the canonical bytes, the number of methods and that of all instructions
-unfoldable pub measured : Abc → List ℕ
-measured v =
+unfoldable pub size_lines : Abc → List ℕ
+size_lines v =
     count_line (codes "bytes") (length (file_bytes v)) ++ count_line (codes "methods") (length v.methods) ++ count_line (codes "instructions") (instruction_count v.bodies)

@@ -23,17 +23,17 @@ use Rattle.abc_cli_answers.specs.declared.stop.Stop.{Stop}
 use Rattle.abc_cli_answers.specs.declared.stop.Stop.TheVariants as stops
 use Rattle.abc_cli_answers.specs.End.{Channel, Got, GivesBytes, GivesLine, HasFailed}
 use Rattle.abc_cli_answers.specs.Lines.{item_text, refusal_text, read_fault_text, no_memory_text, tidy_text, untyped_text, fault_text}
-use Rattle.abc_cli_answers.specs.Answers.{Answer, On, given, told}
+use Rattle.abc_cli_answers.specs.Answers.{Answer, On, bytes_answer, line_answer}
 
 -- what is answered where a command gives nothing
 abbrev pub stop_answer : Stop → Answer
-stop_answer (stops.File place reason) = told status.Refused (refusal_text (refusal place reason))
-stop_answer (stops.Text line reason) = told status.Refused (fault_text (fault line reason))
-stop_answer (stops.Item i rule) = told status.Refused (item_text i rule)
-stop_answer (stops.Code m offset rule) = told status.Refused (untyped_text m offset rule)
-stop_answer (stops.Tidy rule i) = told status.Refused (tidy_text rule i)
-stop_answer stops.ReadFault = told status.ReadFault read_fault_text
-stop_answer stops.NoMemory = told status.NoMemory no_memory_text
+stop_answer (stops.File place reason) = line_answer status.Refused (refusal_text (refusal place reason))
+stop_answer (stops.Text line reason) = line_answer status.Refused (fault_text (fault line reason))
+stop_answer (stops.Item i rule) = line_answer status.Refused (item_text i rule)
+stop_answer (stops.Code m offset rule) = line_answer status.Refused (untyped_text m offset rule)
+stop_answer (stops.Tidy rule i) = line_answer status.Refused (tidy_text rule i)
+stop_answer stops.ReadFault = line_answer status.ReadFault read_fault_text
+stop_answer stops.NoMemory = line_answer status.NoMemory no_memory_text
 
 -- whether the words and the input alone are the reason
 abbrev pub IsDefined : Stop → Type 0
@@ -67,8 +67,8 @@ stop_of_tidy (tidying.Refused rule i) = stops.Tidy rule i
 stop_of_tidy tidying.NoMemory = stops.NoMemory
 
 -- The bytes are those of an outcome, and nothing of the input is left.
-pub record Gives (Outcome : List ℕ → Answer → Type 0) (source : Channel) (bytes : List ℕ) : Type 0 where
-  pub outcome : On Outcome source.before (given bytes)
+pub record GivesAllBytes (Outcome : List ℕ → Answer → Type 0) (source : Channel) (bytes : List ℕ) : Type 0 where
+  pub outcome : On Outcome source.before (bytes_answer bytes)
   pub used_up : IsUsedUp source.before source.after
 
 -- A stop is the outcome, or a failed read that has its cause; want of memory is free.

@@ -1,6 +1,6 @@
 ghost use Rattle.std.specs.Prelude.{◌≡◌, ◌<◌, ◌++◌, [], ◌%◌, ◌+◌, ◌^◌, pos, IfOk, OnOk};
-ghost use Rattle.abc_cli_answers.specs.Codes.{call_of, drawn_code, first_code as code_of_first, operation_of, repeated as code_of};
-ghost use Rattle.abc_cli_answers.specs.Draws.{after};
+ghost use Rattle.abc_cli_answers.specs.Codes.{call_code, drawn_code, first_code as code_of_first, drawn_operation, loop_code as code_of};
+ghost use Rattle.abc_cli_answers.specs.Draws.{draws_after};
 
 use crate::draws::Draws;
 use abc_base::{NoMemory, Table};
@@ -10,7 +10,7 @@ use std::alloc::Global;
 /// Adds the call of a function, which takes what the one before gave.
 fn push_call(code: &mut Table<Instr>, function: u32) -> Result<(), NoMemory>
     requires { function < 2 ^ 30 }
-    ensures { OnOk result (code.new ≡ code.old ++ call_of function) }
+    ensures { OnOk result (code.new ≡ code.old ++ call_code function) }
 {
     code.push(Instr::Plain(op::GETLOCAL_0))?;
     code.push(Instr::Plain(op::GETLOCAL_1))?;
@@ -42,7 +42,7 @@ pub(crate) fn first_code(alloc: Global, functions: u32) -> Result<Table<Instr>, 
 
 /// The opcode of an operation.
 fn operation(number: u32) -> u8
-    ensures { result ≡ operation_of number }
+    ensures { result ≡ drawn_operation number }
 {
     match number {
         0 => op::ADD_I,
@@ -99,7 +99,7 @@ pub(crate) fn drawn_code_of(
 ) -> Result<Table<Instr>, NoMemory>
     requires none { gathering.old ≡ [] }
     ensures code { IfOk result (λ code. (code ≡ drawn_code draws.old.number) × (gathering.new ≡ [])) }
-    ensures draws { draws.new.number ≡ after draws.old.number 3 }
+    ensures draws { draws.new.number ≡ draws_after draws.old.number 3 }
 {
     let rounds = rounds(draws.draw());
     let operand = operand(draws.draw());

@@ -1,5 +1,5 @@
 ghost use Rattle.std.specs.Prelude.{◌≡◌};
-ghost use Rattle.abc_cli_answers.specs.Draws.{given_by, next_of};
+ghost use Rattle.abc_cli_answers.specs.Draws.{drawn_number, next_of};
 
 /// A source of numbers that are the same for the same seed.
 #[derive(Clone, Copy, Debug, PartialEq, Eq)]
@@ -11,7 +11,7 @@ impl Draws {
     /// The next number, below 65,536.
     pub(crate) fn draw(&mut self) -> u32
         ensures number { self.new.number ≡ next_of self.old.number }
-        ensures given { result ≡ given_by self.new.number }
+        ensures given { result ≡ drawn_number self.new.number }
     {
         let next = (u64::from(self.number) * 1_664_525 + 1_013_904_223) % (1 << 32);
         self.number = next as u32;

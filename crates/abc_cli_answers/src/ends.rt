@@ -1,7 +1,7 @@
 ghost use Rattle.std.specs.Prelude.{◌≡◌, is_ok, if◌then◌else◌};
 ghost use Rattle.abc_cli_answers.specs.End.{GivesBytes, GivesLine, stream};
-ghost use Rattle.abc_cli_answers.specs.Lines.{kind_of_tidy, line, write_fault_text, no_command_text};
-ghost use Rattle.abc_cli_answers.specs.Answers.{told};
+ghost use Rattle.abc_cli_answers.specs.Lines.{kind_of_tidy, told_line, write_fault_text, no_command_text};
+ghost use Rattle.abc_cli_answers.specs.Answers.{line_answer};
 ghost use Rattle.abc_cli_answers.specs.Stops.{IsGiven, stop_answer};
 
 use crate::lines::{write_code, write_line, write_place};
@@ -26,7 +26,7 @@ pub fn ended(written: Result<(), Failed>, status: Status) -> Status
 /// Writes the line of a status that has a fixed one.
 #[tactic(auto, using(crate::proofs::Ending::gives))]
 pub fn give_line<E: Sink>(err: &mut E, status: Status, text: &[u8]) -> Status
-    ensures { GivesLine (stream E.written E.faults err.old err.new) (told status text.now) result }
+    ensures { GivesLine (stream E.written E.faults err.old err.new) (line_answer status text.now) result }
 {
     let written = write_line(err, text);
     ended(written, status)
@@ -35,7 +35,8 @@ pub fn give_line<E: Sink>(err: &mut E, status: Status, text: &[u8]) -> Status
 /// Writes the line of a refused file.
 #[tactic(auto, using(crate::proofs::Ending::gives))]
 fn give_file<E: Sink>(err: &mut E, place: u32, reason: Reason) -> Status
-    ensures { GivesLine (stream E.written E.faults err.old err.new) (stop_answer (Stop.File place reason)) result }
+    ensures { GivesLine (stream E.written E.faults err.old err.new) (stop_answer (Stop.File place reason))
+        result }
 {
     let written = write_place(err, b"byte", u64::from(place), reason.name());
     ended(written, Status::Refused)
@@ -44,7 +45,8 @@ fn give_file<E: Sink>(err: &mut E, place: u32, reason: Reason) -> Status
 /// Writes the line of a refused text.
 #[tactic(auto, using(crate::proofs::Ending::gives))]
 fn give_text<E: Sink>(err: &mut E, line: u32, reason: AsmReason) -> Status
-    ensures { GivesLine (stream E.written E.faults err.old err.new) (stop_answer (Stop.Text line reason)) result }
+    ensures { GivesLine (stream E.written E.faults err.old err.new) (stop_answer (Stop.Text told_line reason))
+        result }
 {
     let written = write_place(err, b"line", u64::from(line), reason.name());
     ended(written, Status::Refused)
@@ -53,7 +55,8 @@ fn give_text<E: Sink>(err: &mut E, line: u32, reason: AsmReason) -> Status
 /// Writes the line of an item that breaks a rule of linking.
 #[tactic(auto, using(crate::proofs::Ending::gives))]
 fn give_item<E: Sink>(err: &mut E, item: Item, rule: LinkRule) -> Status
-    ensures { GivesLine (stream E.written E.faults err.old err.new) (stop_answer (Stop.Item item rule)) result }
+    ensures { GivesLine (stream E.written E.faults err.old err.new) (stop_answer (Stop.Item item rule))
+        result }
 {
     let written = write_place(err, item.kind.name(), u64::from(item.index), rule.name());
     ended(written, Status::Refused)
@@ -62,7 +65,8 @@ fn give_item<E: Sink>(err: &mut E, item: Item, rule: LinkRule) -> Status
 /// Writes the line of a method that breaks a rule of verifying.
 #[tactic(auto, using(crate::proofs::Ending::gives))]
 fn give_code<E: Sink>(err: &mut E, method: u32, offset: u32, rule: VerifyRule) -> Status
-    ensures { GivesLine (stream E.written E.faults err.old err.new) (stop_answer (Stop.Code method offset rule)) result }
+    ensures { GivesLine (stream E.written E.faults err.old err.new)
+        (stop_answer (Stop.Code method offset rule)) result }
 {
     let written = write_code(err, method, offset, rule.name());
     ended(written, Status::Refused)
@@ -83,7 +87,8 @@ fn tidy_kind(rule: TidyRule) -> &'static [u8]
 /// Writes the line of a file that breaks a rule of tidying.
 #[tactic(auto, using(crate::proofs::Ending::gives))]
 fn give_tidy<E: Sink>(err: &mut E, rule: TidyRule, index: u32) -> Status
-    ensures { GivesLine (stream E.written E.faults err.old err.new) (stop_answer (Stop.Tidy rule index)) result }
+    ensures { GivesLine (stream E.written E.faults err.old err.new) (stop_answer (Stop.Tidy rule index))
+        result }
 {
     let written = write_place(
         err,
@@ -97,7 +102,8 @@ fn give_tidy<E: Sink>(err: &mut E, rule: TidyRule, index: u32) -> Status
 /// Writes the line of no words at all.
 #[tactic(auto, unfolding(crate::specs::Lines::no_command_text))]
 pub fn give_no_command<E: Sink>(err: &mut E) -> Status
-    ensures { GivesLine (stream E.written E.faults err.old err.new) (told Status.Usage no_command_text) result }
+    ensures { GivesLine (stream E.written E.faults err.old err.new) (line_answer Status.Usage no_command_text)
+        result }
 {
     give_line(err, Status::Usage, b"usage: no command")
 }
@@ -125,7 +131,8 @@ pub fn give_stop<E: Sink>(err: &mut E, stop: Stop) -> Status
 /// Writes bytes to `out`, and where that fails the line that says so to `err`.
 #[tactic(auto, unfolding(crate::specs::Lines::write_fault_text))]
 pub fn give_bytes<K: Sink, E: Sink>(out: &mut K, err: &mut E, bytes: &[u8]) -> Status
-    ensures { GivesBytes (stream K.written K.faults out.old out.new) (stream E.written E.faults err.old err.new) bytes.now result }
+    ensures { GivesBytes (stream K.written K.faults out.old out.new)
+        (stream E.written E.faults err.old err.new) bytes.now result }
 {
     match write_all(out, bytes) {
         Ok(()) => Status::Done,
@@ -135,7 +142,8 @@ pub fn give_bytes<K: Sink, E: Sink>(out: &mut K, err: &mut E, bytes: &[u8]) -> S
 
 /// Writes what a command gives to `out`, or the line that says why it gives nothing to `err`.
 pub fn give<K: Sink, E: Sink>(done: Result<Vec<u8>, Stop>, out: &mut K, err: &mut E) -> Status
-    ensures { IsGiven done (stream K.written K.faults out.old out.new) (stream E.written E.faults err.old err.new) result }
+    ensures { IsGiven done (stream K.written K.faults out.old out.new)
+        (stream E.written E.faults err.old err.new) result }
 {
     match done {
         Ok(bytes) => give_bytes(out, err, bytes.as_slice()),

@@ -1,8 +1,8 @@
 ghost use Rattle.std.specs.Prelude.{◌≡◌, ◌++◌, ◌∷◌, []};
-ghost use Rattle.abc_base.specs.Escapes.{escaped};
+ghost use Rattle.abc_base.specs.Escapes.{with_escapes};
 ghost use Rattle.abc_base.specs.Faults.{HasCause};
 ghost use Rattle.abc_base.specs.Sinks.{WritesAll};
-ghost use Rattle.abc_cli_answers.specs.Lines.{code_text, limit_text, line, place_text, uncaught_text, usage_text};
+ghost use Rattle.abc_cli_answers.specs.Lines.{code_text, limit_text, told_line, place_text, uncaught_text, usage_text};
 
 use abc_base::{Failed, Sink, write_all, write_escaped};
 use abc_heap_store::Limit;
@@ -23,7 +23,8 @@ fn write_three<E: Sink>(err: &mut E, a: &[u8], b: &[u8], c: &[u8]) -> Result<(),
 /// Writes a piece with escapes between two others.
 #[tactic(auto, using(abc_base::proofs::Writing::writing))]
 fn write_with_escapes<E: Sink>(err: &mut E, a: &[u8], word: &[u8], c: &[u8]) -> Result<(), Failed>
-    ensures bytes { WritesAll (E.written err.old) (E.written err.new) result (a.now ++ escaped word.now ++ c.now) }
+    ensures bytes { WritesAll (E.written err.old) (E.written err.new) result
+        (a.now ++ with_escapes word.now ++ c.now) }
     ensures cause { HasCause (E.faults err.old) (E.faults err.new) result }
 {
     write_all(err, a)?;
@@ -42,7 +43,8 @@ fn write_six<E: Sink>(
     e: &[u8],
     f: &[u8],
 ) -> Result<(), Failed>
-    ensures bytes { WritesAll (E.written err.old) (E.written err.new) result ((a.now ++ b.now ++ c.now) ++ (d.now ++ e.now ++ f.now)) }
+    ensures bytes { WritesAll (E.written err.old) (E.written err.new) result
+        ((a.now ++ b.now ++ c.now) ++ (d.now ++ e.now ++ f.now)) }
     ensures cause { HasCause (E.faults err.old) (E.faults err.new) result }
 {
     write_three(err, a, b, c)?;
@@ -60,7 +62,8 @@ fn write_six_and_end<E: Sink>(
     e: &[u8],
     f: &[u8],
 ) -> Result<(), Failed>
-    ensures bytes { WritesAll (E.written err.old) (E.written err.new) result (((a.now ++ b.now ++ c.now) ++ (d.now ++ e.now ++ f.now)) ++ 10 ∷ []) }
+    ensures bytes { WritesAll (E.written err.old) (E.written err.new) result
+        (((a.now ++ b.now ++ c.now) ++ (d.now ++ e.now ++ f.now)) ++ 10 ∷ []) }
     ensures cause { HasCause (E.faults err.old) (E.faults err.new) result }
 {
     write_six(err, a, b, c, d, e, f)?;
@@ -68,36 +71,38 @@ fn write_six_and_end<E: Sink>(
 }
 
 /// Writes a line: `abc: `, a text, and a line feed.
-#[tactic(auto, unfolding(crate::specs::Lines::line))]
+#[tactic(auto, unfolding(crate::specs::Lines::told_line))]
 pub fn write_line<E: Sink>(err: &mut E, text: &[u8]) -> Result<(), Failed>
-    ensures bytes { WritesAll (E.written err.old) (E.written err.new) result (line text.now) }
+    ensures bytes { WritesAll (E.written err.old) (E.written err.new) result (told_line text.now) }
     ensures cause { HasCause (E.faults err.old) (E.faults err.new) result }
 {
     write_three(err, b"abc: ", text, b"\n")
 }
 
 /// Writes the line of words that go wrong at this one.
-#[tactic(auto, unfolding(crate::specs::Lines::line, crate::specs::Lines::usage_text))]
+#[tactic(auto, unfolding(crate::specs::Lines::told_line, crate::specs::Lines::usage_text))]
 pub fn write_usage<E: Sink>(err: &mut E, word: &[u8]) -> Result<(), Failed>
-    ensures bytes { WritesAll (E.written err.old) (E.written err.new) result (line (usage_text word.now)) }
+    ensures bytes { WritesAll (E.written err.old) (E.written err.new) result
+        (told_line (usage_text word.now)) }
     ensures cause { HasCause (E.faults err.old) (E.faults err.new) result }
 {
     write_with_escapes(err, b"abc: usage: ", word, b"\n")
 }
 
 /// Writes the line of what nothing caught, by a name.
-#[tactic(auto, unfolding(crate::specs::Lines::line, crate::specs::Lines::uncaught_text))]
+#[tactic(auto, unfolding(crate::specs::Lines::told_line, crate::specs::Lines::uncaught_text))]
 pub fn write_uncaught<E: Sink>(err: &mut E, name: &[u8]) -> Result<(), Failed>
-    ensures bytes { WritesAll (E.written err.old) (E.written err.new) result (line (uncaught_text name.now)) }
+    ensures bytes { WritesAll (E.written err.old) (E.written err.new) result
+        (told_line (uncaught_text name.now)) }
     ensures cause { HasCause (E.faults err.old) (E.faults err.new) result }
 {
     write_with_escapes(err, b"abc: uncaught ", name, b"\n")
 }
 
 /// Writes the line of a limit that is reached, or below what every run begins with.
-#[tactic(auto, unfolding(crate::specs::Lines::line, crate::specs::Lines::limit_text))]
+#[tactic(auto, unfolding(crate::specs::Lines::told_line, crate::specs::Lines::limit_text))]
 pub fn write_limit<E: Sink>(err: &mut E, limit: Limit) -> Result<(), Failed>
-    ensures bytes { WritesAll (E.written err.old) (E.written err.new) result (line (limit_text limit)) }
+    ensures bytes { WritesAll (E.written err.old) (E.written err.new) result (told_line (limit_text limit)) }
     ensures cause { HasCause (E.faults err.old) (E.faults err.new) result }
 {
     write_three(err, b"abc: limit ", limit_name(limit), b"\n")
@@ -110,7 +115,8 @@ pub fn write_place<E: Sink>(
     number: u64,
     name: &[u8],
 ) -> Result<(), Failed>
-    ensures bytes { WritesAll (E.written err.old) (E.written err.new) result (line (place_text kind.now number name.now)) }
+    ensures bytes { WritesAll (E.written err.old) (E.written err.new) result
+        (told_line (place_text kind.now number name.now)) }
     ensures cause { HasCause (E.faults err.old) (E.faults err.new) result }
 {
     let mut buffer = Buffer::new();
@@ -120,7 +126,8 @@ pub fn write_place<E: Sink>(
 
 /// Writes the line of an instruction by its method and its offset, and what is wrong there.
 pub fn write_code<E: Sink>(err: &mut E, method: u32, offset: u32, name: &[u8]) -> Result<(), Failed>
-    ensures bytes { WritesAll (E.written err.old) (E.written err.new) result (line (code_text method offset name.now)) }
+    ensures bytes { WritesAll (E.written err.old) (E.written err.new) result
+        (told_line (code_text method offset name.now)) }
     ensures cause { HasCause (E.faults err.old) (E.faults err.new) result }
 {
     let mut method_buffer = Buffer::new();

@@ -1,7 +1,7 @@
 ghost use Rattle.std.specs.Prelude.{◌≡◌, ◌<◌, ◌≤◌, ◌^◌, ◌∷◌, [], map, codes, IfOk, OnOk};
 ghost use Rattle.std.specs.List.{range_with_len};
 ghost use Rattle.abc_file_types.specs.Files.{Fits};
-ghost use Rattle.abc_cli_answers.specs.Generated.{first_body, function_body, body_of, function_name as name_of, function_signature, function_trait as trait_of, generated, one_to, public_name, public_space, script_of, signature as signature_of, texts as all_texts};
+ghost use Rattle.abc_cli_answers.specs.Generated.{first_body, function_body, generated_body, function_name as name_of, function_signature, function_trait as trait_of, generated_file, one_to, public_name, public_space, generated_script, signature as signature_of, generated_texts as all_texts};
 
 use crate::codes::{drawn_code_of, first_code};
 use crate::draws::Draws;
@@ -79,7 +79,8 @@ fn signature(alloc: Global, ret: u32, params: Table<u32>) -> Method
 /// The signatures: that of the script, and of each function of an int that gives an int.
 fn signatures(alloc: Global, functions: u32) -> Result<Table<Method>, NoMemory>
     requires { functions < 2 ^ 30 }
-    ensures { IfOk result (λ methods. methods ≡ signature_of 0 [] ∷ map function_signature (one_to functions)) }
+    ensures { IfOk result
+        (λ methods. methods ≡ signature_of 0 [] ∷ map function_signature (one_to functions)) }
 {
     let mut methods = Table::with_capacity(alloc, functions as usize + 1)?;
     methods.push(signature(alloc, 0, Table::new(alloc)))?;
@@ -112,7 +113,7 @@ fn function_traits(alloc: Global, functions: u32) -> Result<Table<TraitInfo>, No
 
 /// A body without handlers and traits whose operands are at most two.
 fn body(method: u32, local_count: u32, max_scope: u32, code: Table<Instr>, alloc: Global) -> Body
-    ensures { result ≡ body_of method local_count max_scope code }
+    ensures { result ≡ generated_body method local_count max_scope code }
 {
     Body {
         method,
@@ -129,7 +130,8 @@ fn body(method: u32, local_count: u32, max_scope: u32, code: Table<Instr>, alloc
 /// The bodies, in the order of their methods.
 fn bodies(alloc: Global, seed: u32, functions: u32) -> Result<Table<Body>, NoMemory>
     requires { functions < 2 ^ 30 }
-    ensures { IfOk result (λ bodies. bodies ≡ first_body functions ∷ map (function_body seed) (one_to functions)) }
+    ensures { IfOk result
+        (λ bodies. bodies ≡ first_body functions ∷ map (function_body seed) (one_to functions)) }
 {
     let mut bodies = Table::with_capacity(alloc, functions as usize + 1)?;
     bodies.push(body(0, 2, 1, first_code(alloc, functions)?, alloc))?;
@@ -157,7 +159,7 @@ fn namespaces(alloc: Global) -> Result<Table<Namespace>, NoMemory>
 /// The one script, with its functions.
 fn scripts(alloc: Global, functions: u32) -> Result<Table<Script>, NoMemory>
     requires { functions < 2 ^ 30 }
-    ensures { IfOk result (λ scripts. scripts ≡ script_of functions ∷ []) }
+    ensures { IfOk result (λ scripts. scripts ≡ generated_script functions ∷ []) }
 {
     let mut scripts = Table::new(alloc);
     let traits = function_traits(alloc, functions)?;
@@ -168,7 +170,7 @@ fn scripts(alloc: Global, functions: u32) -> Result<Table<Script>, NoMemory>
 /// The file of so many functions whose operations are drawn from a seed.
 fn made(alloc: Global, seed: u32, methods: u32) -> Result<Abc, NoMemory>
     requires { methods < 2 ^ 29 }
-    ensures { IfOk result (λ abc. abc ≡ generated seed methods) }
+    ensures { IfOk result (λ abc. abc ≡ generated_file seed methods) }
 {
     let strings = texts(alloc, methods)?;
     let namespaces = namespaces(alloc)?;
@@ -191,7 +193,7 @@ fn made(alloc: Global, seed: u32, methods: u32) -> Result<Abc, NoMemory>
 /// the other, each with what the one before gave, and traces what the last gave. An Err is want of memory.
 pub fn make_abc(alloc: Global, seed: u32, methods: u32) -> Result<Abc, NoMemory>
     requires { methods ≤ 10000 }
-    ensures is { IfOk result (λ abc. abc ≡ generated seed methods) }
+    ensures is { IfOk result (λ abc. abc ≡ generated_file seed methods) }
     ensures fits { IfOk result (λ abc. Fits abc) }
 {
     let abc = made(alloc, seed, methods)?;

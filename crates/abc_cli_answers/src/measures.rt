@@ -1,8 +1,8 @@
 ghost use Rattle.std.specs.Prelude.{◌≡◌, ◌<◌, ◌≤◌, ◌++◌, ◌^◌, length, IfOk, OnOk};
 ghost use Rattle.abc_bodies.specs.Places.{ArePlaces};
 ghost use Rattle.abc_file_types.specs.Files.{Fits, file_bytes};
-ghost use Rattle.abc_cli_answers.specs.Generated.{generated};
-ghost use Rattle.abc_cli_answers.specs.Measured.{count_line, instruction_count as instructions_of, measured};
+ghost use Rattle.abc_cli_answers.specs.Generated.{generated_file};
+ghost use Rattle.abc_cli_answers.specs.Measured.{count_line, instruction_count as instructions_of, size_lines};
 ghost use Rattle.abc_cli_answers.specs.Placed.{IsReadAgain, starts_in};
 
 use crate::making::make_abc;
@@ -76,7 +76,7 @@ fn byte_count(abc: &Abc) -> usize
 fn lines_on(alloc: Global, abc: &Abc) -> Result<Vec<u8>, NoMemory>
     requires few { instructions_of abc.now.bodies < 2 ^ 32 }
     requires fits { Fits abc.now }
-    ensures { IfOk result (λ lines. lines.items ≡ measured abc.now) }
+    ensures { IfOk result (λ lines. lines.items ≡ size_lines abc.now) }
 {
     let bytes = byte_count(abc);
     let count = instruction_count(&abc.bodies);
@@ -92,7 +92,7 @@ fn notes_on(alloc: Global, abc: &Abc) -> Result<Notes, NoMemory>
     requires few { instructions_of abc.now.bodies < 2 ^ 32 }
     requires fits { Fits abc.now }
     ensures places { IfOk result (λ notes. notes.places ≡ starts_in abc.now.bodies) }
-    ensures lines { IfOk result (λ notes. notes.lines.items ≡ measured abc.now) }
+    ensures lines { IfOk result (λ notes. notes.lines.items ≡ size_lines abc.now) }
 {
     let places = places_of(alloc, &abc.bodies)?;
     let lines = lines_on(alloc, abc)?;
@@ -103,10 +103,10 @@ fn notes_on(alloc: Global, abc: &Abc) -> Result<Notes, NoMemory>
 /// once it was run. Its canonical bytes would be read as this file, with its instructions at these places. An Err is want of memory.
 pub fn make(alloc: Global, seed: u32, methods: u32) -> Result<Made, NoMemory>
     requires { methods ≤ 10000 }
-    ensures file { IfOk result (λ made. made.file ≡ generated seed methods) }
+    ensures file { IfOk result (λ made. made.file ≡ generated_file seed methods) }
     ensures read { IfOk result (λ made. IsReadAgain made.file made.notes.places) }
     ensures places { IfOk result (λ made. ArePlaces made.file.bodies made.notes.places) }
-    ensures lines { IfOk result (λ made. made.notes.lines.items ≡ measured (generated seed methods)) }
+    ensures lines { IfOk result (λ made. made.notes.lines.items ≡ size_lines (generated_file seed methods)) }
 {
     let file = make_abc(alloc, seed, methods)?;
     match notes_on(alloc, &file) {

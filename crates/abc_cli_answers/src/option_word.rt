@@ -1,6 +1,6 @@
 ghost use Rattle.std.specs.Prelude.{◌≡◌, ◌==◌, MatchOption, position};
 ghost use Rattle.abc_cli_answers.specs.Grammar.{decimal};
-ghost use Rattle.abc_cli_answers.specs.Reading.{name_and_number, is_number, some_if};
+ghost use Rattle.abc_cli_answers.specs.Reading.{name_and_number, is_option_number, some_if};
 
 /// A word that is `--name=N`.
 #[derive(Clone, Copy, Debug)]
@@ -11,7 +11,8 @@ pub struct NamedNumber<'a> {
 
 /// The name and the number of an option, or `None` where the word does not give one.
 pub fn read_option_word(word: &[u8]) -> Option<NamedNumber<'_>>
-    ensures { MatchOption result (name_and_number word.now ≡ None) (λ s. name_and_number word.now ≡ Some (s.name.now, s.number)) }
+    ensures { MatchOption result (name_and_number word.now ≡ None)
+        (λ s. name_and_number word.now ≡ Some (s.name.now, s.number)) }
 {
     let rest = word.strip_prefix(b"--")?;
     let end = equals_sign(rest)?;
@@ -32,7 +33,7 @@ fn equals_sign(bytes: &[u8]) -> Option<usize>
 /// The number that one to ten decimal digits stand for, or `None` where the bytes are none, or begin with a `0` that is
 /// not the only one.
 fn number(digits: &[u8]) -> Option<u64>
-    ensures { result ≡ some_if (is_number digits.now) (decimal digits.now) }
+    ensures { result ≡ some_if (is_option_number digits.now) (decimal digits.now) }
 {
     if digits.is_empty() || digits.len() > 10 || (digits[0] == b'0' && digits.len() > 1) {
         return None;

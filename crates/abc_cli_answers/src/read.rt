@@ -2,7 +2,7 @@ ghost use Rattle.std.specs.Prelude.{◌≡◌, ◌<◌, ◌↔◌, ℕ, [], leng
 ghost use Rattle.std.specs.Bool.{OnTrue, OnFalse};
 ghost use Rattle.abc_cli_answers.specs.declared.command.Command.{Command};
 ghost use Rattle.abc_cli_answers.specs.Grammar.{Says, IsUsageWord};
-ghost use Rattle.abc_cli_answers.specs.Reading.{command_of, after_word, after_words, plain};
+ghost use Rattle.abc_cli_answers.specs.Reading.{command_of, after_word, after_words, plain_command};
 
 use crate::command::{Command, Usage};
 use crate::given::{Given, GivenCalls, GivenGen, GivenNone, GivenRun};
@@ -55,7 +55,7 @@ fn read_command(words: &Words) -> Result<Command, Usage>
 /// A command that has no options.
 fn read_plain(words: &Words, command: Command) -> Result<Command, Usage>
     requires { 0 < length words.now }
-    ensures { result ≡ plain command (drop 1 words.now) }
+    ensures { result ≡ plain_command command (drop 1 words.now) }
 {
     read_options(words, GivenNone)?;
     Ok(command)

@@ -8,8 +8,8 @@ use Rattle.abc_file_types.specs.declared.tables.Sizes.{Sizes}
 use Rattle.abc_file_types.specs.Classes.{sizes_of}
 use Rattle.abc_text_lines.specs.Lines.{Number, Shown, Line, Labels}
 use Rattle.abc_text_lines.specs.Rows.{Faults, code_after}
-use Rattle.abc_text_lines.specs.Wordlines.{flat}
-use Rattle.abc_text_lines.specs.Answers.{instance_in, lines_of, metadata_lines, outline}
+use Rattle.abc_text_lines.specs.Wordlines.{flat_lines}
+use Rattle.abc_text_lines.specs.Answers.{instance_parts, lines_of_file, metadata_lines, outline}
 use Rattle.abc_text_lines.specs.File as file
 use Rattle.abc_text_lines.specs.Lineforms.{body_line, catch_line}
 use Rattle.abc_text_lines.specs.Listing.{lines_of_body, quiet_lines}
@@ -29,7 +29,7 @@ module _ (v : Abc) where
   code_of b = Labels 0 ∷ code_after (file.instructions s i) 0 b.code
 
   abbrev pub catches_of : Body → List Shown
-  catches_of b = (flat fs words.Catch (catch_line s) 0).shows b.handlers
+  catches_of b = (flat_lines fs words.Catch (catch_line s) 0).shows b.handlers
 
   -- what stands behind the code
   abbrev pub rest_of : Body → List Shown
@@ -55,13 +55,13 @@ module _ (v : Abc) where
       ap (λ (l : List Shown). first ∷ l) (ap (λ (l : List Shown). l ++ rest) (sym (append-nil below)))
       ∙ ap (λ (l : List Shown). lines_of_body v b ++ l) (bodies_listed bs)
 
-  pub lines_are : lines_of v ≡ quiet_lines v ++ flat_map (lines_of_body v) v.bodies
+  pub lines_are : lines_of_file v ≡ quiet_lines v ++ flat_map (lines_of_body v) v.bodies
   unfolding file.file
   lines_are =
       let p = (file.pools s i 0).shows (outline v).0 in
       let m = (file.methods s i 0).shows v.methods in
       let d = (file.metadata s i 0).shows (map metadata_lines v.metadata) in
-      let x = (file.instance_lines s i 0).shows (map instance_in v.instances) in
+      let x = (file.instance_lines s i 0).shows (map instance_parts v.instances) in
       let c = (file.classes s i 0).shows v.classes in
       let z = (file.scripts s i 0).shows v.scripts in
       let b = flat_map (lines_of_body v) v.bodies in
@@ -77,5 +77,5 @@ module _ (v : Abc) where
   plain_bodies [] = refl
   plain_bodies (b ∷ bs) = ap (λ (l : List Shown). l ++ flat_map (lines_of_body v) bs) (body_lines_are b) ∙ ap (λ (l : List Shown). plain_body b ++ l) (plain_bodies bs)
 
-  pub plain_lines : lines_of v ≡ quiet_lines v ++ flat_map plain_body v.bodies
+  pub plain_lines : lines_of_file v ≡ quiet_lines v ++ flat_map plain_body v.bodies
   plain_lines = lines_are ∙ ap (λ (l : List Shown). quiet_lines v ++ l) (plain_bodies v.bodies)

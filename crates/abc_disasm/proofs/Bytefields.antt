@@ -2,7 +2,7 @@
 use Rattle.std.proofs.Common.{◌≡◌, ℕ, zero, suc, ◌+◌, ◌-◌, ◌<◌, List, [], ◌∷◌, ◌++◌, length, map, sym, subst}
 use Rattle.std.specs.List.{AllByRecursion}
 use Rattle.abc_file_types.specs.Ends.{Pieces}
-use Rattle.abc_file_types.specs.Lists.{chain, counted, pool, text, times}
+use Rattle.abc_file_types.specs.Lists.{chain, count_and_items, pool, bytes_with_count, times}
 use Rattle.abc_file_types.specs.Numbers.{u8}
 use Rattle.abc_file_types.specs.Part.{Part}
 use Rattle.abc_file_types.specs.declared.classes.Instance.{Instance}
@@ -19,7 +19,7 @@ use Rattle.abc_file_types.specs.Bodies.{bodies, bodies_alone, body, body_list, b
 use Rattle.abc_file_types.specs.Classes.{definitions, instance, sizes_of, sizes_with}
 use Rattle.abc_file_types.specs.Code.{Means, MeansAll, code, code_body}
 use Rattle.abc_file_types.specs.Files.{file}
-use Rattle.abc_file_types.specs.Instructions.{Branch, RawInstr, Same, Switch, instruction, operands}
+use Rattle.abc_file_types.specs.Instructions.{Branch, RawInstr, Same, Switch, instruction, operand_parts}
 use Rattle.abc_file_types.specs.Methods.{method}
 use Rattle.abc_file_types.specs.Pools.{double, pools}
 use Rattle.abc_disasm.specs.Bytes.{HasByteFields, HasByteValues}
@@ -53,8 +53,8 @@ times-carries Q p h (suc n) xs b all s =
     let t = s.1 in
     subst (AllByRecursion Q) (sym s.2) (h s.0.0 t.0 (front_bytes b t.0 t.1 t.2 all) t.3, times-carries Q p h n s.0.1 t.1 (back_bytes b t.0 t.1 t.2 all) t.4)
 
-counted-carries : {A : Type 0} (Q : A → Type 0) (p : Part A) → Carries Q p → Carries (AllByRecursion Q) (counted p)
-unfolding counted
+counted-carries : {A : Type 0} (Q : A → Type 0) (p : Part A) → Carries Q p → Carries (AllByRecursion Q) (count_and_items p)
+unfolding count_and_items
 counted-carries Q p h xs b all s = let t = s.1 in subst (AllByRecursion Q) (sym s.2) (times-carries Q p h s.0.0 s.0.1 t.1 (back_bytes b t.0 t.1 t.2 all) t.4)
 
 pool-carries : {A : Type 0} (Q : A → Type 0) (p : Part A) → Carries Q p → Carries (AllByRecursion Q) (pool p)
@@ -75,8 +75,8 @@ chain-carries Q p h (suc n) before are xs b all s =
 
 -- ---- pools and definitions
 
-text-carries : Carries AreBytes text
-unfolding text
+text-carries : Carries AreBytes bytes_with_count
+unfolding bytes_with_count
 text-carries = counted-carries (λ n. n < 256) u8 u8-carries
 
 double-carries : Carries (λ d. AreBytes d.0) double
@@ -98,7 +98,7 @@ pools-carry abc b all s =
     let a = back_bytes b t.0 t.1 t.2 all in
     let c = back_bytes t.1 u.0 u.1 u.2 a in
     let d = back_bytes u.1 w.0 w.1 w.2 c in
-    subst HasTexts (sym s.2) (pool-carries (λ (d : Eight). AreBytes d.0) double double-carries x.1.1.0 w.0 (front_bytes u.1 w.0 w.1 w.2 c) w.3, pool-carries AreBytes text text-carries x.1.1.1.0 y.0 (front_bytes w.1 y.0 y.1 y.2 d) y.3)
+    subst HasTexts (sym s.2) (pool-carries (λ (d : Eight). AreBytes d.0) double double-carries x.1.1.0 w.0 (front_bytes u.1 w.0 w.1 w.2 c) w.3, pool-carries AreBytes bytes_with_count text-carries x.1.1.1.0 y.0 (front_bytes w.1 y.0 y.1 y.2 d) y.3)
 
 method-carries : (v : Sizes) → Carries (λ m. m.flags < 256) (method v)
 unfolding method
@@ -151,7 +151,7 @@ HasRawFields (Same i) = HasByteFields i
 HasRawFields (Branch op z) = Unit {0}
 HasRawFields (Switch z zs) = Unit {0}
 
-operands-carry : (op : ℕ) (form : Form) → Carries HasRawFields (operands op form)
+operands-carry : (op : ℕ) (form : Form) → Carries HasRawFields (operand_parts op form)
 operands-carry op forms.Plain x b all s = subst HasRawFields (sym s.0) tt
 operands-carry op forms.One x b all s = subst HasRawFields (sym s.2) tt
 operands-carry op forms.Two x b all s = subst HasRawFields (sym s.2) tt

@@ -25,15 +25,15 @@ use Rattle.abc_file_types.specs.Methods.{has_value}
 use Rattle.abc_file_types.specs.Opcodes.{form_at, info_at}
 use Rattle.abc_file_types.specs.Ready.{CanSpell}
 use Rattle.abc_file_types.specs.Traits.{trait_kind_in}
-use Rattle.abc_tables.specs.Fitting.{FitsDouble, FitsInt, FitsMultiname, FitsNamespace, FitsNamespaceSet, FitsOption, FitsSlotValue, HasNames, IsEntryIndex, IsNumber, IsPoolIndex, IsPosition, Spelled}
+use Rattle.abc_tables.specs.Fitting.{FitsDouble, FitsInt, FitsMultiname, FitsNamespace, FitsNamespaceSet, FitsOption, FitsSlotValue, HasNames, IsEntryIndex, FitsNumber, IsPoolIndex, IsPosition, Spelled}
 use Rattle.abc_tables.proofs.Combined.{entry_index_fits}
 use Rattle.abc_tables.proofs.MethodsFit.{option_fits, value_fits}
 use Rattle.abc_tables.proofs.PoolsFit as pools
 use Rattle.abc_tables.proofs.PoolsFit.{double_fits, multiname_fits, namespace_fits, namespace_set_fits}
 use Rattle.abc_tables.proofs.TraitsFit as traits
-use Rattle.abc_text_lines.specs.Operands.{EachFits, any_number, any_signed, eight, entry_upto, index_below, index_upto, number_below, target, text, u30}
-use Rattle.abc_text_lines.specs.Kinds.{multiname_kind, space_kind, value_kind}
-use Rattle.abc_text_lines.specs.Lineforms.{catch_line, double_line, instruction_line, int_line, kind_in, multiname_fields, name_line, namespace_line, opcode_of, option_line, set_line, slot_value, string_line, trait_fields, uint_line}
+use Rattle.abc_text_lines.specs.Operands.{EachFits, any_number, any_signed, eight, entry_upto, index_operand_below, index_upto, number_below, target, text_operand, u30_operand}
+use Rattle.abc_text_lines.specs.Kinds.{multiname_kind_operand, space_kind, value_kind_operand}
+use Rattle.abc_text_lines.specs.Lineforms.{catch_line, double_line, instruction_operands, int_line, kind_in, multiname_operands, name_line, namespace_line, opcode_of, option_line, set_line, slot_value_operand, string_line, trait_operands, uint_line}
 use Rattle.abc_disasm.specs.Bytes.{HasByteFields}
 
 -- ---- lists
@@ -51,12 +51,12 @@ pub pool_in : (n x : ℕ) → IsPoolIndex n x → (index_upto n).fits x
 unfolding IsPoolIndex parts.pool_index parts.u30 any_number
 pool_in n x s = ((tt, s.is.0.1), s.is.1)
 
-pub position_in : (n x : ℕ) → IsPosition n x → (index_below n).fits x
+pub position_in : (n x : ℕ) → IsPosition n x → (index_operand_below n).fits x
 unfolding IsPosition parts.index_below parts.u30 any_number
 position_in n x s = ((tt, s.is.0.1), s.is.1)
 
-pub number_in : (x : ℕ) → IsNumber x → u30.fits x
-unfolding IsNumber parts.u30 any_number
+pub number_in : (x : ℕ) → FitsNumber x → u30_operand.fits x
+unfolding FitsNumber parts.u30 any_number
 number_in x s = (tt, s.is.1)
 
 pub entry_in : (n x : ℕ) → IsEntryIndex n x → (entry_upto n).fits x
@@ -101,7 +101,7 @@ unfolding double_line eight
 double_in d s = let len = (double_fits d).0 s in ((grind (arith, nat_tests), tt), refl)
 
 pub string_in : (b : List ℕ) → string_line.fits b
-unfolding string_line text
+unfolding string_line text_operand
 string_in b = ((tt, tt), refl)
 
 module _ (v : Sizes) where
@@ -121,7 +121,7 @@ module _ (v : Sizes) where
   unfolding set_line
   set_in xs s = each_entry v.namespaces xs (recursion_from_All (IsEntryIndex v.namespaces) xs ((namespace_set_fits v.namespaces xs).0 s).1)
 
-  name_fields_in : (m : Multiname) → pools.HasFields v.strings v.namespaces v.sets v.names m → (multiname_fields v (kind_in m)).fits m
+  name_fields_in : (m : Multiname) → pools.HasFields v.strings v.namespaces v.sets v.names m → (multiname_operands v (kind_in m)).fits m
   name_fields_in (names.QName attr ns name) h = ((pool_in v.namespaces ns h.0, (pool_in v.strings name h.1, tt)), refl)
   name_fields_in (names.Rt attr name) h = ((pool_in v.strings name h, tt), refl)
   name_fields_in (names.RtL attr) h = (tt, refl)
@@ -130,29 +130,29 @@ module _ (v : Sizes) where
   name_fields_in (names.TypeName base params) h = ((entry_in v.names base h.0, each_pool v.names params (recursion_from_All (IsPoolIndex v.names) params h.2)), refl)
 
   pub name_in : (m : Multiname) → FitsMultiname v m → (name_line v).fits m
-  unfolding name_line multiname_kind
+  unfolding name_line multiname_kind_operand
   name_in m s = ((tt, name_fields_in m ((multiname_fits v m).0 s)), refl)
 
   -- ---- values
 
   pub option_in : (o : OptionValue) → FitsOption v o → (option_line v).fits o
-  unfolding option_line value_kind
+  unfolding option_line value_kind_operand
   option_in o s = let h = (option_fits v o).0 s in ((tt, ((number_in o.value h.0, h.1), tt)), refl)
 
-  slot_by : (n : ℕ) (o : OptionValue) → o.value ≡ n → ¬ (n ≡ 0) → u30.fits n → has_value v n o.kind ≡ true → (slot_value v).fits (Some (record { kind = o.kind; value = n }))
-  unfolding slot_value value_kind any_number
+  slot_by : (n : ℕ) (o : OptionValue) → o.value ≡ n → ¬ (n ≡ 0) → u30_operand.fits n → has_value v n o.kind ≡ true → (slot_value_operand v).fits (Some (record { kind = o.kind; value = n }))
+  unfolding slot_value_operand value_kind_operand any_number
   slot_by zero o e some lt has = absurd (some refl)
   slot_by (suc n) o e some lt has = ((lt, (((tt, has), tt), refl)), refl)
 
-  slot_in : (o : Option OptionValue) → FitsSlotValue v o → (slot_value v).fits o
-  unfolding slot_value value_kind any_number
+  slot_in : (o : Option OptionValue) → FitsSlotValue v o → (slot_value_operand v).fits o
+  unfolding slot_value_operand value_kind_operand any_number
   slot_in None s = (((tt, refl), (tt, refl)), refl)
   slot_in (Some o) s =
       let h = (value_fits v o).0 s in
       let k = (option_fits v o).0 h.1 in
       slot_by o.value o refl h.0 (number_in o.value k.0) k.1
 
-  pub fields_in : (b : TraitBody) → traits.HasFields v b → (trait_fields v (trait_kind_in b)).fits b
+  pub fields_in : (b : TraitBody) → traits.HasFields v b → (trait_operands v (trait_kind_in b)).fits b
   fields_in (bodies.Slot id ty value false) h = ((number_in id h.0, (pool_in v.names ty h.1, slot_in value h.2)), refl)
   fields_in (bodies.Slot id ty value true) h = ((number_in id h.0, (pool_in v.names ty h.1, slot_in value h.2)), refl)
   fields_in (bodies.Method disp method) h = ((number_in disp h.0, (position_in v.methods method h.1, tt)), refl)
@@ -176,22 +176,22 @@ int_from : (z low : ℤ) → low ≤ℤ z → int_le low z ≡ true
 int_from z low le = elim (split_bool (int_le low z)) [ inl e ↦ e | inr e ↦ absurd (omega (arith, ints)) ]
 
 abbrev InstrFits : Instr → Type 0
-InstrFits i = (instruction_line (opcode_of i)).fits i
+InstrFits i = (instruction_operands (opcode_of i)).fits i
 
-plain_in : (op : ℕ) → form_at op ≡ Some forms.Plain → (instruction_line op).fits (instrs.Plain op)
-unfolding instruction_line
+plain_in : (op : ℕ) → form_at op ≡ Some forms.Plain → (instruction_operands op).fits (instrs.Plain op)
+unfolding instruction_operands
 plain_in op e = rw e (tt, refl)
 
-one_in : (op n : ℕ) → form_at op ≡ Some forms.One → u30.fits n → (instruction_line op).fits (instrs.One op n)
-unfolding instruction_line
+one_in : (op n : ℕ) → form_at op ≡ Some forms.One → u30_operand.fits n → (instruction_operands op).fits (instrs.One op n)
+unfolding instruction_operands
 one_in op n e lt = rw e ((lt, tt), refl)
 
-two_in : (op n m : ℕ) → form_at op ≡ Some forms.Two → u30.fits n → u30.fits m → (instruction_line op).fits (instrs.Two op n m)
-unfolding instruction_line
+two_in : (op n m : ℕ) → form_at op ≡ Some forms.Two → u30_operand.fits n → u30_operand.fits m → (instruction_operands op).fits (instrs.Two op n m)
+unfolding instruction_operands
 two_in op n m e lt lt2 = rw e ((lt, (lt2, tt)), refl)
 
-branch_in : (op t : ℕ) → form_at op ≡ Some forms.Branch → (instruction_line op).fits (instrs.Branch op t)
-unfolding instruction_line target
+branch_in : (op t : ℕ) → form_at op ≡ Some forms.Branch → (instruction_operands op).fits (instrs.Branch op t)
+unfolding instruction_operands target
 branch_in op t e = rw e ((tt, tt), refl)
 
 each_target : (ts : List ℕ) → EachFits target ts
@@ -200,24 +200,24 @@ each_target [] = tt
 each_target (t ∷ ts) = (tt, each_target ts)
 
 switch_in : (t : ℕ) (ts : List ℕ) → 0 < length ts → InstrFits (instrs.Switch t ts)
-unfolding instruction_line form_at info_at target
+unfolding instruction_operands form_at info_at target
 switch_in t [] some = absurd (omega arith)
 switch_in t (c ∷ cs) some = ((tt, (tt, each_target cs)), refl)
 
 byte_in : (z : ℤ) → int_le (negsuc 127) z ≡ true → int_le z (pos 127) ≡ true → InstrFits (instrs.Byte z)
-unfolding instruction_line form_at info_at any_signed
+unfolding instruction_operands form_at info_at any_signed
 byte_in z a b = (((tt, rw (a, b) refl), tt), refl)
 
 short_in : (z : ℤ) → int_le (negsuc 32767) z ≡ true → int_le z (pos 32767) ≡ true → InstrFits (instrs.Short z)
-unfolding instruction_line form_at info_at any_signed
+unfolding instruction_operands form_at info_at any_signed
 short_in z a b = (((tt, rw (a, b) refl), tt), refl)
 
 scope_in : (n : ℕ) → (number_below 256).fits n → InstrFits (instrs.ScopeObject n)
-unfolding instruction_line form_at info_at
+unfolding instruction_operands form_at info_at
 scope_in n lt = ((lt, tt), refl)
 
-debug_in : (kind name reg extra : ℕ) → (number_below 256).fits kind → u30.fits name → (number_below 256).fits reg → u30.fits extra → InstrFits (instrs.Debug kind name reg extra)
-unfolding instruction_line form_at info_at
+debug_in : (kind name reg extra : ℕ) → (number_below 256).fits kind → u30_operand.fits name → (number_below 256).fits reg → u30_operand.fits extra → InstrFits (instrs.Debug kind name reg extra)
+unfolding instruction_operands form_at info_at
 debug_in kind name reg extra a b c d = ((a, (b, (c, (d, tt)))), refl)
 
 pub instr_in : (n : ℕ) (i : Instr) → CanSpell n i → HasByteFields i → InstrFits i

@@ -23,7 +23,7 @@ use Rattle.abc_file_types.specs.Classes.{sizes_of}
 use Rattle.abc_file_types.specs.CodeBytes.{code_len}
 use Rattle.abc_file_types.specs.Methods.{has_flag}
 use Rattle.abc_file_types.specs.Ready.{AllCanSpell}
-use Rattle.abc_tables.specs.Fitting.{FitBodies, FitDefinitions, FitOptions, FitParamNames, FitPools, FitTraits, FitUints, FitsBody, FitsClass, FitsInstance, FitsMetadata, FitsMethod, FitsOption, FitsProtected, FitsScript, FitsTrait, FitsTraitMetadata, HasNames, IsEntryIndex, IsNumber, IsPoolIndex, IsPosition, Spelled}
+use Rattle.abc_tables.specs.Fitting.{FitBodies, FitDefinitions, FitOptions, FitParamNames, FitPools, FitTraits, FitUints, FitsBody, FitsClass, FitsInstance, FitsMetadata, FitsMethod, FitsOption, FitsProtected, FitsScript, FitsTrait, FitsTraitMetadata, HasNames, IsEntryIndex, FitsNumber, IsPoolIndex, IsPosition, Spelled}
 use Rattle.abc_tables.proofs.BodiesFit.{bodies_fit, body_fits}
 use Rattle.abc_tables.proofs.ClassesFit.{class_fits, instance_fits, protected_asked, protected_missing, protected_unasked, script_fits}
 use Rattle.abc_tables.proofs.Combined.{pool_spelled}
@@ -33,17 +33,17 @@ use Rattle.abc_tables.proofs.PoolsFit.{doubles_fit, ints_fit, multinames_fit, na
 use Rattle.abc_tables.proofs.TraitsFit.{fields_fit, metadata_asked, metadata_unasked, trait_fits, traits_fit}
 use Rattle.abc_text_lines.specs.Operands.{Operands, index_upto}
 use Rattle.abc_text_lines.specs.Rows.{AllFit, Faults, Head, ItemsFit, Rows}
-use Rattle.abc_text_lines.specs.Wordlines.{always, closed_to, flat, line}
-use Rattle.abc_text_lines.specs.Answers.{instance_head, instance_in, metadata_lines, outline, pairs, table}
+use Rattle.abc_text_lines.specs.Wordlines.{always, closed_to, flat_lines, lines_of_word}
+use Rattle.abc_text_lines.specs.Answers.{instance_head, instance_parts, metadata_lines, outline, pairs, file_rows}
 use Rattle.abc_text_lines.specs.File as file
-use Rattle.abc_text_lines.specs.Kinds.{trait_kind}
+use Rattle.abc_text_lines.specs.Kinds.{trait_kind_operand}
 use Rattle.abc_text_lines.specs.Lineforms.{BodyHead, MethodHead, TraitHead, body_line, catch_line, double_line, entry_line, implements_line, instance_line, int_line, method_index_line, method_line, name_line, namespace_line, number_line, option_line, param_line, protected_line, set_line, string_index_line, string_line, trait_line, trait_metadata_line, uint_line}
 use Rattle.abc_disasm.proofs.Fields.{below_in, catch_in, double_in, each, each_of, entry_in, fields_in, instr_in, int_in, name_in, namespace_in, number_in, option_in, pool_in, position_in, set_in, string_in, uint_in}
 use Rattle.abc_disasm.specs.Bytes.{HasByteFields, HasByteValues}
 
 -- ---- lists of lines
 
-flat_in : {A : Type 0} (faults : Faults) (w : Word) (p : Operands A) (n : ℕ) (xs : List A) → AllByRecursion p.fits xs → (flat faults w p n).fits xs
+flat_in : {A : Type 0} (faults : Faults) (w : Word) (p : Operands A) (n : ℕ) (xs : List A) → AllByRecursion p.fits xs → (flat_lines faults w p n).fits xs
 flat_in faults w p n [] all = tt
 flat_in faults w p n (x ∷ xs) all = ((all.0, tt), tt, flat_in faults w p n xs all.1)
 
@@ -72,7 +72,7 @@ module _ (s : Sizes) (i : ℕ) where
   trait_head t = record { attrs = t.attrs; name = t.name; body = t.body }
 
   trait_line_in : (t : TraitInfo) → FitsTrait s t → (trait_line s).fits (trait_head t)
-  unfolding trait_line trait_kind
+  unfolding trait_line trait_kind_operand
   trait_line_in t fits =
       let h = (trait_fits s t).0 fits in
       ((tt, ((below_in 16 t.attrs h.1, (entry_in s.names t.name h.0, fields_in s t.body ((fields_fit s t.body).0 h.2))), refl)), refl)
@@ -99,7 +99,7 @@ module _ (s : Sizes) (i : ℕ) where
   pub traits_in : (faults : Faults) (n : ℕ) (ts : List TraitInfo) → FitTraits s ts → (file.traits s i faults n).fits ts
   unfolding file.traits
   traits_in faults n ts fits =
-      many_in (line words.Trait (trait_line s) (file.MetadataAgrees s i)) (closed_to file.skipped (flat faults words.TraitMetadata (trait_metadata_line s) n)) (λ (t : TraitInfo). (trait_head t, t.metadata)) ts
+      many_in (lines_of_word words.Trait (trait_line s) (file.MetadataAgrees s i)) (closed_to file.skipped_words (flat_lines faults words.TraitMetadata (trait_metadata_line s) n)) (λ (t : TraitInfo). (trait_head t, t.metadata)) ts
       (each_of (FitsTrait s) _ (λ t h.
       let m = metadata_by t ((trait_fits s t).0 h).3 in
       ((trait_line_in t h, m.agrees), flat_in faults words.TraitMetadata (trait_metadata_line s) n t.metadata m.each_in))
@@ -114,7 +114,7 @@ module _ (s : Sizes) (i : ℕ) where
   unfolding param_line
   param_in n h = ((pool_in s.names n h, tt), refl)
 
-  pname_in : (n : ℕ) → IsNumber n → number_line.fits n
+  pname_in : (n : ℕ) → FitsNumber n → number_line.fits n
   unfolding number_line
   pname_in n h = ((number_in n h, tt), refl)
 
@@ -147,7 +147,7 @@ module _ (s : Sizes) (i : ℕ) where
             let h = (names_asked m e).0 fits in
             let same = h.0 in
             let is : nat_eq (length m.param_names) (length m.params) ≡ true = grind (arith, nat_tests) in
-            record { as_many = rw (e, is) refl; each_in = each_of IsNumber number_line.fits pname_in m.param_names h.1 }
+            record { as_many = rw (e, is) refl; each_in = each_of FitsNumber number_line.fits pname_in m.param_names h.1 }
         | inr e ↦
             let none = (names_unasked m e).0 fits in
             let is : nat_eq (length m.param_names) 0 ≡ true = grind (arith, nat_tests) in
@@ -172,7 +172,7 @@ module _ (s : Sizes) (i : ℕ) where
   methods_in : (n : ℕ) (ms : List Method) → All (FitsMethod s) ms → AllByRecursion (λ m. m.flags < 256) ms → (file.methods s i n).fits ms
   unfolding file.methods
   methods_in n ms all bytes =
-      many_in (line words.Method (method_line s) (file.MethodAgrees s i)) (file.method_below s i n) (λ (m : Method). (method_head m, (m.params, (m.options, m.param_names)))) ms
+      many_in (lines_of_word words.Method (method_line s) (file.MethodAgrees s i)) (file.method_below s i n) (λ (m : Method). (method_head m, (m.params, (m.options, m.param_names)))) ms
       (each (λ m. FitsMethod s m × (m.flags < 256)) _ (λ m h. ((method_line_in m h.0 h.1, method_agrees m h.0), method_below_in n m h.0)) ms
       (both_all (FitsMethod s) (λ m. m.flags < 256) ms (recursion_from_All (FitsMethod s) ms all) bytes))
 
@@ -191,7 +191,7 @@ module _ (s : Sizes) (i : ℕ) where
   metadata_in : (n : ℕ) (ms : List Metadata) → All (FitsMetadata s) ms → (file.metadata s i n).fits (map metadata_lines ms)
   unfolding file.metadata
   metadata_in n ms all =
-      many_in (line words.Metadata (string_index_line s) always) (flat fs words.Entry (entry_line s) n) metadata_lines ms
+      many_in (lines_of_word words.Metadata (string_index_line s) always) (flat_lines fs words.Entry (entry_line s) n) metadata_lines ms
       (each_of (FitsMetadata s) _ (λ m f.
       let h = (metadata_fits s m).0 f in
       ((metadata_line_in m.name h.0, tt), flat_in fs words.Entry (entry_line s) n (pairs m.items) (pairs_in m.items (recursion_from_All (IsPoolIndex s.strings) m.items h.3)))) ms all)
@@ -239,7 +239,7 @@ module _ (s : Sizes) (i : ℕ) where
             }
       ]
 
-  instance_below_in : (n : ℕ) (x : Instance) → FitsInstance s x → (file.instance_below s i n).fits (instance_in x).1
+  instance_below_in : (n : ℕ) (x : Instance) → FitsInstance s x → (file.instance_below s i n).fits (instance_parts x).1
   unfolding file.instance_below
   instance_below_in n x fits =
       let h = (instance_fits s x).0 fits in (
@@ -247,10 +247,10 @@ module _ (s : Sizes) (i : ℕ) where
         (flat_in fs words.Implements (implements_line s) n x.interfaces (each_of (IsEntryIndex s.names) (implements_line s).fits implements_line_in x.interfaces h.4), ((method_index_in x.iinit h.5, tt), traits_in fs n x.traits h.6)),
       )
 
-  instances_in : (n : ℕ) → file.IsBalanced s i → (xs : List Instance) → All (FitsInstance s) xs → AllByRecursion (λ x. x.flags < 256) xs → (file.instance_lines s i n).fits (map instance_in xs)
+  instances_in : (n : ℕ) → file.IsBalanced s i → (xs : List Instance) → All (FitsInstance s) xs → AllByRecursion (λ x. x.flags < 256) xs → (file.instance_lines s i n).fits (map instance_parts xs)
   unfolding file.instance_lines
   instances_in n balanced xs all bytes =
-      many_in (line words.Instance (instance_line s) (file.InstanceAgrees s i)) (file.instance_below s i n) instance_in xs
+      many_in (lines_of_word words.Instance (instance_line s) (file.InstanceAgrees s i)) (file.instance_below s i n) instance_parts xs
       (each (λ x. FitsInstance s x × (x.flags < 256)) _
       (λ x h. ((instance_line_in x h.0 h.1, ((protected_by x ((instance_fits s x).0 h.0).2).as_asked, refl, balanced)), instance_below_in n x h.0)) xs
       (both_all (FitsInstance s) (λ x. x.flags < 256) xs (recursion_from_All (FitsInstance s) xs all) bytes))
@@ -258,13 +258,13 @@ module _ (s : Sizes) (i : ℕ) where
   classes_in : (n : ℕ) → file.IsBalanced s i → (cs : List ClassInfo) → All (FitsClass s) cs → (file.classes s i n).fits cs
   unfolding file.classes
   classes_in n balanced cs all =
-      many_in (line words.Class (method_index_line s) (file.ClassAgrees s i)) (file.traits s i fs n) (λ (c : ClassInfo). (c.cinit, c.traits)) cs
+      many_in (lines_of_word words.Class (method_index_line s) (file.ClassAgrees s i)) (file.traits s i fs n) (λ (c : ClassInfo). (c.cinit, c.traits)) cs
       (each_of (FitsClass s) _ (λ c f. let h = (class_fits s c).0 f in ((method_index_in c.cinit h.0, balanced), traits_in fs n c.traits h.1)) cs all)
 
   scripts_in : (n : ℕ) (ss : List Script) → All (FitsScript s) ss → (file.scripts s i n).fits ss
   unfolding file.scripts
   scripts_in n ss all =
-      many_in (line words.Script (method_index_line s) always) (file.traits s i fs n) (λ (c : Script). (c.init, c.traits)) ss
+      many_in (lines_of_word words.Script (method_index_line s) always) (file.traits s i fs n) (λ (c : Script). (c.init, c.traits)) ss
       (each_of (FitsScript s) _ (λ c f. let h = (script_fits s c).0 f in ((method_index_in c.init h.0, tt), traits_in fs n c.traits h.1)) ss all)
 
   -- ---- bodies
@@ -291,7 +291,7 @@ module _ (s : Sizes) (i : ℕ) where
   bodies_in : (n : ℕ) (bs : List Body) → All (FitsBody s) bs → AllByRecursion (λ b. AllByRecursion HasByteFields b.code) bs → (file.body_lines s i n).fits bs
   unfolding file.body_lines
   bodies_in n bs all bytes =
-      many_in (line words.Body (body_line s) (file.BodyAgrees s i)) (file.body_below s i fs n) (λ (b : Body). (body_head b, (b.code, (b.handlers, b.traits)))) bs
+      many_in (lines_of_word words.Body (body_line s) (file.BodyAgrees s i)) (file.body_below s i fs n) (λ (b : Body). (body_head b, (b.code, (b.handlers, b.traits)))) bs
       (each (λ b. FitsBody s b × AllByRecursion HasByteFields b.code) _
       (λ b h.
       let short = ((body_fits s b).0 h.0).2.code.short in
@@ -340,7 +340,7 @@ module _ (v : Abc) where
         ),
       )
 
-  pub table_fits : FitPools v → FitDefinitions v → FitBodies v → HasByteValues v → (table v).fits (outline v)
+  pub table_fits : FitPools v → FitDefinitions v → FitBodies v → HasByteValues v → (file_rows v).fits (outline v)
   unfolding file.file
   table_fits pools definitions bodies bytes =
       let d = (definitions_fit v).0 definitions in

@@ -2,9 +2,9 @@
 use Rattle.std.proofs.Common.{◌≡◌, ℕ, ◌+◌, ◌<◌, ◌^◌, ◌/◌, ◌%◌, inl, inr, true, false, not, ◌&&◌, nat_eq, nat_le, nat_lt, List, [], ◌∷◌, ◌++◌, length, map, Some, refl, arith}
 use Rattle.std.specs.List.{AllByRecursion}
 use Rattle.std.proofs.lemmas.Bool.Decides.{nat_tests}
-use Rattle.abc_base.specs.Escapes.{escape_of, escaped, hex_digit, is_plain}
+use Rattle.abc_base.specs.Escapes.{escape_of, with_escapes, hex_digit, is_plain_byte}
 use Rattle.abc_text_lines.specs.Tokens.{Token, Bare, quote}
-use Rattle.abc_text_lines.specs.Writing.{AreWritable, IsWritable, spaced, written, written_line}
+use Rattle.abc_text_lines.specs.Writing.{AreWritable, IsWritable, spaced_tokens, token_bytes, written_line}
 use Rattle.abc_text_lines.proofs.Bools.{and_true, split_bool}
 use Rattle.abc_text_lines.specs.Lines.{Label, Item, Number, Signed, Text, Eight, Kind, Target}
 use Rattle.abc_text_lines.specs.Operands.{AreTokens, IsToken, is_name, place_of_label}
@@ -27,7 +27,7 @@ all_append P (x ∷ a) b p q = (p.0, all_append P a b p.1 q)
 -- a token that can stand in a line
 pub record IsFine (token : Token) : Type 0 where
   pub writable : IsWritable token
-  pub feed : AllByRecursion IsNoFeed (written token)
+  pub feed : AllByRecursion IsNoFeed (token_bytes token)
 
 pub word_fine : (word : List ℕ) → IsWord word → IsFine (Bare word)
 word_fine word is = record { writable = word_writable word is; feed = feeds word is.solid }
@@ -39,7 +39,7 @@ hex_feed n =
       | inr e ↦ rw e (let a : nat_eq (87 + n) 0x0a ≡ false = grind (arith, nat_tests) in a)
     ]
 
-plain_feed : (b : ℕ) → is_plain b ≡ true → IsNoFeed b
+plain_feed : (b : ℕ) → is_plain_byte b ≡ true → IsNoFeed b
 plain_feed b e =
     let all = and_true (nat_le 0x20 b && nat_le b 0x7e && not (nat_eq b 0x22)) (not (nat_eq b 0x5c)) e in
     let two = and_true (nat_le 0x20 b && nat_le b 0x7e) (not (nat_eq b 0x22)) all.0 in
@@ -47,17 +47,17 @@ plain_feed b e =
     grind (arith, nat_tests)
 
 escape_feed : (b : ℕ) → AllByRecursion IsNoFeed (escape_of b)
-escape_feed b = elim (split_bool (is_plain b)) [ inl e ↦ rw e (plain_feed b e, tt) | inr e ↦ rw e (refl, (hex_feed (b / 16), (hex_feed (b % 16), tt))) ]
+escape_feed b = elim (split_bool (is_plain_byte b)) [ inl e ↦ rw e (plain_feed b e, tt) | inr e ↦ rw e (refl, (hex_feed (b / 16), (hex_feed (b % 16), tt))) ]
 
-pub escaped_feed : (text : List ℕ) → AllByRecursion IsNoFeed (escaped text)
-unfolding escaped
+pub escaped_feed : (text : List ℕ) → AllByRecursion IsNoFeed (with_escapes text)
+unfolding with_escapes
 escaped_feed [] = tt
-escaped_feed (b ∷ text) = all_append IsNoFeed (escape_of b) (escaped text) (escape_feed b) (escaped_feed text)
+escaped_feed (b ∷ text) = all_append IsNoFeed (escape_of b) (with_escapes text) (escape_feed b) (escaped_feed text)
 
 item_fine : (leads : ℕ → Type 0) (item : Item) → CanBeShown leads item → IsFine (token_of item)
 item_fine leads (Number n) can = word_fine _ (decimal_word n can)
 item_fine leads (Signed z) can = word_fine _ (signed_word z can)
-item_fine leads (Text bytes) can = record { writable = can; feed = (refl, all_append IsNoFeed (escaped bytes) (quote ∷ []) (escaped_feed bytes) (refl, tt)) }
+item_fine leads (Text bytes) can = record { writable = can; feed = (refl, all_append IsNoFeed (with_escapes bytes) (quote ∷ []) (escaped_feed bytes) (refl, tt)) }
 item_fine leads (Eight bytes) can = word_fine _ (hex_word bytes can.0 can.1)
 item_fine leads (Kind kind) can = word_fine _ (name_word kind can)
 item_fine leads (Target n) can = word_fine _ (name_word _ (label_name n can.0))
@@ -84,10 +84,10 @@ pub fine_writable : (tokens : List Token) → AllByRecursion IsFine tokens → A
 fine_writable [] all = tt
 fine_writable (token ∷ tokens) all = (all.0.writable, fine_writable tokens all.1)
 
-spaced_feed : (tokens : List Token) → AllByRecursion IsFine tokens → AllByRecursion IsNoFeed (spaced tokens)
+spaced_feed : (tokens : List Token) → AllByRecursion IsFine tokens → AllByRecursion IsNoFeed (spaced_tokens tokens)
 spaced_feed [] all = tt
-spaced_feed (token ∷ tokens) all = (refl, all_append IsNoFeed (written token) (spaced tokens) all.0.feed (spaced_feed tokens all.1))
+spaced_feed (token ∷ tokens) all = (refl, all_append IsNoFeed (token_bytes token) (spaced_tokens tokens) all.0.feed (spaced_feed tokens all.1))
 
 pub line_feed : (tokens : List Token) → AllByRecursion IsFine tokens → AllByRecursion IsNoFeed (written_line tokens)
 line_feed [] all = tt
-line_feed (token ∷ tokens) all = all_append IsNoFeed (written token) (spaced tokens) all.0.feed (spaced_feed tokens all.1)
+line_feed (token ∷ tokens) all = all_append IsNoFeed (token_bytes token) (spaced_tokens tokens) all.0.feed (spaced_feed tokens all.1)

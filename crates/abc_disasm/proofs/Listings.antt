@@ -27,12 +27,12 @@ use Rattle.abc_text_lines.specs.Law.{Match}
 use Rattle.abc_text_lines.specs.Lines.{Shown}
 use Rattle.abc_text_lines.specs.Operands.{Operands, any_signed, eight}
 use Rattle.abc_text_lines.specs.Rows.{Faults}
-use Rattle.abc_text_lines.specs.Wordlines.{flat, shows_operands}
-use Rattle.abc_text_lines.specs.Answers.{IsAssemblyOf, IsWhole, first_in, instance_in, instance_of, joined, lines_of, metadata_lines, metadata_of, outline, pairs, table}
+use Rattle.abc_text_lines.specs.Wordlines.{flat_lines, shows_operands}
+use Rattle.abc_text_lines.specs.Answers.{IsAssemblyOf, IsMetadataWhole, first_in, instance_parts, instance_of_parts, flat_pairs, lines_of_file, metadata_lines, metadata_of_parts, outline, pairs, file_rows}
 use Rattle.abc_text_lines.specs.File as file
 use Rattle.abc_text_lines.specs.Lineforms.{double_line, int_line, name_line, namespace_line, set_line, string_line, uint_line}
-use Rattle.abc_text_lines.specs.Listing.{body_text, lines_of_body, listing, quiet_lines, targets_in}
-use Rattle.abc_text_lines.specs.Texts.{Raw, lines_in, raws_from, rows_from, rows_of}
+use Rattle.abc_text_lines.specs.Listing.{body_text, lines_of_body, listing, quiet_lines, targets_of_line}
+use Rattle.abc_text_lines.specs.Texts.{Raw, lines_in, raws_from, rows_of_lines, rows_of}
 use Rattle.abc_disasm.proofs.Bodylines.{all_differ, bodies_stand, bodies_written, kept_body, match_bodies, none_taken}
 use Rattle.abc_disasm.specs.Bytes.{HasByteValues}
 use Rattle.abc_disasm.proofs.Bodyparts.{lines_are}
@@ -51,7 +51,7 @@ Nowhere n = ⊥
 
 -- ---- lines of the pools
 
-flat_sit_each : {A : Type 0} (faults : Faults) (w : Word) (p : Operands A) (n : ℕ) → is_quiet w ≡ true → (xs : List A) → AllByRecursion (λ x. AllByRecursion (CanBeShown Nowhere) (p.items x)) xs → AllSit Nowhere ((flat faults w p n).shows xs)
+flat_sit_each : {A : Type 0} (faults : Faults) (w : Word) (p : Operands A) (n : ℕ) → is_quiet w ≡ true → (xs : List A) → AllByRecursion (λ x. AllByRecursion (CanBeShown Nowhere) (p.items x)) xs → AllSit Nowhere ((flat_lines faults w p n).shows xs)
 flat_sit_each faults w p n quiet [] all = tt
 flat_sit_each faults w p n quiet (x ∷ xs) all = ((quiet, all.0), flat_sit_each faults w p n quiet xs all.1)
 
@@ -71,7 +71,7 @@ doubles_shown (d ∷ ds) fits bytes =
     let some : 0 < length d.0 = grind (arith, nat_tests) in
     (double_shown Nowhere d some bytes.0, doubles_shown ds fits.1 bytes.1)
 
-flat_each : {A : Type 0} (faults : Faults) (w : Word) (p : Operands A) (n : ℕ) (xs : List A) → (flat faults w p n).fits xs → AllByRecursion p.fits xs
+flat_each : {A : Type 0} (faults : Faults) (w : Word) (p : Operands A) (n : ℕ) (xs : List A) → (flat_lines faults w p n).fits xs → AllByRecursion p.fits xs
 flat_each faults w p n [] fits = tt
 flat_each faults w p n (x ∷ xs) fits = (fits.0.0, flat_each faults w p n xs fits.2)
 
@@ -92,13 +92,13 @@ module _ (v : Abc) where
   pools_sit : (file.pools s i 0).fits (outline v).0 → HasByteValues v → AllSit Nowhere ((file.pools s i 0).shows (outline v).0)
   unfolding file.pools
   pools_sit fits bytes =
-      let a = (flat fs words.Int int_line 0).shows v.ints in
-      let b = (flat fs words.UInt uint_line 0).shows v.uints in
-      let c = (flat fs words.Double double_line 0).shows v.doubles in
-      let d = (flat fs words.Text string_line 0).shows v.strings in
-      let e = (flat fs words.Namespace (namespace_line s) 0).shows v.namespaces in
-      let f = (flat fs words.Set (set_line s) 0).shows v.sets in
-      let g = (flat fs words.Name (name_line s) 0).shows v.names in
+      let a = (flat_lines fs words.Int int_line 0).shows v.ints in
+      let b = (flat_lines fs words.UInt uint_line 0).shows v.uints in
+      let c = (flat_lines fs words.Double double_line 0).shows v.doubles in
+      let d = (flat_lines fs words.Text string_line 0).shows v.strings in
+      let e = (flat_lines fs words.Namespace (namespace_line s) 0).shows v.namespaces in
+      let f = (flat_lines fs words.Set (set_line s) 0).shows v.sets in
+      let g = (flat_lines fs words.Name (name_line s) 0).shows v.names in
       two_sit Nowhere a (b ++ (c ++ (d ++ (e ++ (f ++ g))))) (flat-sits Nowhere fs words.Int int_line 0 refl int-shown v.ints fits.0)
       (two_sit Nowhere b (c ++ (d ++ (e ++ (f ++ g)))) (flat-sits Nowhere fs words.UInt uint_line 0 refl (uint-shown Nowhere) v.uints fits.1.0)
       (two_sit Nowhere c (d ++ (e ++ (f ++ g))) (flat_sit_each fs words.Double double_line 0 refl v.doubles (doubles_shown v.doubles (flat_each fs words.Double double_line 0 v.doubles fits.1.1.0) bytes.doubles))
@@ -107,20 +107,20 @@ module _ (v : Abc) where
       (two_sit Nowhere f g (flat-sits Nowhere fs words.Set (set_line s) 0 refl (set-shown Nowhere s) v.sets fits.1.1.1.1.1.0)
       (flat-sits Nowhere fs words.Name (name_line s) 0 refl (name-shown Nowhere s) v.names fits.1.1.1.1.1.1))))))
 
-  quiet_sit : (table v).fits (outline v) → HasByteValues v → AllSit Nowhere (quiet_lines v)
+  quiet_sit : (file_rows v).fits (outline v) → HasByteValues v → AllSit Nowhere (quiet_lines v)
   unfolding file.file
   quiet_sit fits bytes =
       let p = (file.pools s i 0).shows (outline v).0 in
       let m = (file.methods s i 0).shows v.methods in
       let d = (file.metadata s i 0).shows (map metadata_lines v.metadata) in
-      let x = (file.instance_lines s i 0).shows (map instance_in v.instances) in
+      let x = (file.instance_lines s i 0).shows (map instance_parts v.instances) in
       let c = (file.classes s i 0).shows v.classes in
       let z = (file.scripts s i 0).shows v.scripts in (
         (refl, (omega arith, (omega arith, tt))),
         two_sit Nowhere p (m ++ (d ++ (x ++ (c ++ z)))) (pools_sit fits.0 bytes)
             (two_sit Nowhere m (d ++ (x ++ (c ++ z))) (methods-sit Nowhere s i 0 v.methods fits.1.0)
             (two_sit Nowhere d (x ++ (c ++ z)) (metadata-sit Nowhere s i 0 (map metadata_lines v.metadata) fits.1.1.0)
-            (two_sit Nowhere x (c ++ z) (instances-sit Nowhere s i 0 (map instance_in v.instances) fits.1.1.1.0)
+            (two_sit Nowhere x (c ++ z) (instances-sit Nowhere s i 0 (map instance_parts v.instances) fits.1.1.1.0)
             (two_sit Nowhere c z (classes-sit Nowhere s i 0 v.classes fits.1.1.1.1.0) (scripts-sit Nowhere s i 0 v.scripts fits.1.1.1.1.1.0))))),
       )
 
@@ -130,7 +130,7 @@ module _ (v : Abc) where
   bodies_text [] = refl
   bodies_text (b ∷ bs) =
       ap (λ (l : List ℕ). body_text v b ++ l) (bodies_text bs)
-      ∙ ap (λ (l : List ℕ). l ++ flat_map (exact v) (flat_map (kept_body v) bs)) (rendered_kept v (flat_map targets_in (lines_of_body v b)) (lines_of_body v b))
+      ∙ ap (λ (l : List ℕ). l ++ flat_map (exact v) (flat_map (kept_body v) bs)) (rendered_kept v (flat_map targets_of_line (lines_of_body v b)) (lines_of_body v b))
       ∙ sym (flat_map-append (exact v) (kept_body v b) (flat_map (kept_body v) bs))
 
   listing_is : AllSit Nowhere (quiet_lines v) → listing v ≡ flat_map (exact v) (quiet_lines v ++ flat_map (kept_body v) v.bodies)
@@ -140,11 +140,11 @@ module _ (v : Abc) where
       ∙ ap (λ (l : List ℕ). flat_map (exact v) (quiet_lines v) ++ l) (bodies_text v.bodies)
       ∙ sym (flat_map-append (exact v) (quiet_lines v) (flat_map (kept_body v) v.bodies))
 
-  rows_by : (text : List ℕ) (lines : List Shown) → raws_from 1 (lines_in text) ≡ raws 1 lines → rows_of text ≡ rows_from [] [] [] (raws 1 lines)
+  rows_by : (text : List ℕ) (lines : List Shown) → raws_from 1 (lines_in text) ≡ raws 1 lines → rows_of text ≡ rows_of_lines [] [] [] (raws 1 lines)
   unfolding rows_of
-  rows_by text lines e = ap (λ (rs : List Raw). rows_from [] [] [] rs) e
+  rows_by text lines e = ap (λ (rs : List Raw). rows_of_lines [] [] [] rs) e
 
-  shown_back : (table v).fits (outline v) → FitBodies v → HasByteValues v → Match shows_operands (rows_of (listing v)) (lines_of v)
+  shown_back : (file_rows v).fits (outline v) → FitBodies v → HasByteValues v → Match shows_operands (rows_of (listing v)) (lines_of_file v)
   shown_back fits bodies bytes =
       let b = (bodies_fit v).0 bodies in
       let sit = quiet_sit fits bytes in
@@ -161,16 +161,16 @@ module _ (v : Abc) where
 
 -- ---- the file of an outline
 
-pairs_joined : (n : ℕ) (xs : List ℕ) → length xs ≡ 2 * n → joined (pairs xs) ≡ xs
+pairs_joined : (n : ℕ) (xs : List ℕ) → length xs ≡ 2 * n → flat_pairs (pairs xs) ≡ xs
 pairs_joined n [] e = refl
 pairs_joined n (a ∷ []) e = absurd (omega arith)
 pairs_joined zero (a ∷ b ∷ xs) e = absurd (omega arith)
 pairs_joined (suc n) (a ∷ b ∷ xs) e = ap (λ (l : List ℕ). a ∷ b ∷ l) (pairs_joined n xs (omega arith))
 
-metadata_again : (m : Metadata) → length m.items % 2 ≡ 0 → metadata_of (metadata_lines m) ≡ m
+metadata_again : (m : Metadata) → length m.items % 2 ≡ 0 → metadata_of_parts (metadata_lines m) ≡ m
 metadata_again m e = ap (λ (items : List ℕ). let made : Metadata = record { name = m.name; items = items } in made) (pairs_joined (length m.items / 2) m.items (omega arith))
 
-all_metadata : (v : Sizes) (ms : List Metadata) → AllByRecursion (FitsMetadata v) ms → map metadata_of (map metadata_lines ms) ≡ ms
+all_metadata : (v : Sizes) (ms : List Metadata) → AllByRecursion (FitsMetadata v) ms → map metadata_of_parts (map metadata_lines ms) ≡ ms
 all_metadata v [] all = refl
 all_metadata v (m ∷ ms) all = let a = metadata_again m ((metadata_fits v m).0 all.0).1 in let b = all_metadata v ms all.1 in rw (a, b) refl
 
@@ -178,11 +178,11 @@ option_again : (o : Option ℕ) → first_in (option_to_list o) ≡ o
 option_again None = refl
 option_again (Some n) = refl
 
-all_instances : (is : List Instance) → map instance_of (map instance_in is) ≡ is
+all_instances : (is : List Instance) → map instance_of_parts (map instance_parts is) ≡ is
 all_instances [] = refl
 all_instances (x ∷ is) = let a = option_again x.protected_ns in let b = all_instances is in rw (a, b) refl
 
-whole : (v : Abc) → FitDefinitions v → IsWhole v
+whole : (v : Abc) → FitDefinitions v → IsMetadataWhole v
 whole v fits =
     let d = (definitions_fit v).0 fits in
     let a = all_metadata (sizes_of v) v.metadata (recursion_from_All (FitsMetadata (sizes_of v)) v.metadata d.metadata) in
@@ -195,8 +195,8 @@ pub listing_is_text : (v : Abc) → Fits v → HasByteValues v → IsAssemblyOf 
 listing_is_text v fits bytes =
     let f = (file_fits v).0 fits in
     let t = (tables_fit v).0 f.1 in
-    let table = table_fits v t.0 t.1 t.2 bytes in
+    let file_rows = table_fits v t.0 t.1 t.2 bytes in
     record {
-      listed = record { shown = shown_back v table t.2 bytes; fits = table; whole = whole v t.1 };
+      listed = record { shown = shown_back v file_rows t.2 bytes; fits = file_rows; whole = whole v t.1 };
       short = omega (arith, file-len v, f.0);
     }

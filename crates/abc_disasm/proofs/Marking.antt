@@ -8,7 +8,7 @@ use Rattle.std.proofs.lemmas.Bool.Decides.{nat_tests}
 use Rattle.abc_text_lines.proofs.Bools.{split_bool}
 use Rattle.abc_text_lines.proofs.Scans.{eq_is}
 use Rattle.abc_text_lines.specs.Wordlines.{among}
-use Rattle.abc_disasm.specs.Marks.{AreMarks}
+use Rattle.abc_disasm.specs.Marks.{AreTargetMarks}
 
 among_last : (k n : ℕ) (named : List ℕ) → among k (named ++ n ∷ []) ≡ cond (among k named) true (nat_eq k n)
 among_last k n [] = elim (split_bool (nat_eq k n)) [ inl e ↦ rw e refl | inr e ↦ rw e refl ]
@@ -22,7 +22,7 @@ same_ : (b : Bool) → cond b true false ≡ b
 same_ true = refl
 same_ false = refl
 
-pub marked : (ms : List Bool) (named : List ℕ) (n : ℕ) → n < length ms → AreMarks ms named → AreMarks (set ms n true) (named ++ n ∷ [])
+pub marked : (ms : List Bool) (named : List ℕ) (n : ℕ) → n < length ms → AreTargetMarks ms named → AreTargetMarks (set ms n true) (named ++ n ∷ [])
 marked ms named n lt are k within =
     let few : k < length ms = omega (arith, length-set ms n true) in
     elim (split_bool (nat_eq k n)) [
@@ -34,7 +34,7 @@ marked ms named n lt are k within =
           get_or-set_other ms n k true false differ ∙ are k few ∙ sym (among_last k n named ∙ ap (λ (b : Bool). cond (among k named) true b) e ∙ same_ (among k named))
     ]
 
-pub unmarked : (ms : List Bool) (named : List ℕ) (n : ℕ) → length ms ≤ n → AreMarks ms named → AreMarks ms (named ++ n ∷ [])
+pub unmarked : (ms : List Bool) (named : List ℕ) (n : ℕ) → length ms ≤ n → AreTargetMarks ms named → AreTargetMarks ms (named ++ n ∷ [])
 unmarked ms named n le are k within =
     let other : nat_eq k n ≡ false = grind (arith, nat_tests) in
     are k within ∙ sym (among_last k n named ∙ ap (λ (b : Bool). cond (among k named) true b) other ∙ same_ (among k named))
@@ -53,14 +53,14 @@ pub whole : {A : Type 0} (xs : List A) (i : ℕ) → length xs ≤ i → take i 
 whole xs i le = take_all i xs le
 
 -- no number is named yet
-pub none_marked : (n : ℕ) → AreMarks (replicate n false) []
+pub none_marked : (n : ℕ) → AreTargetMarks (replicate n false) []
 none_marked zero k lt = refl
 none_marked (suc n) zero lt = refl
 none_marked (suc n) (suc k) lt = none_marked n k (omega (arith, lt))
 
 -- what is left of other marks once all are taken away and blank ones added
-pub cleared : (n k : ℕ) (ms old : List Bool) → old ≡ [] → ms ≡ take n old ++ replicate k false → AreMarks ms []
+pub cleared : (n k : ℕ) (ms old : List Bool) → old ≡ [] → ms ≡ take n old ++ replicate k false → AreTargetMarks ms []
 cleared n k ms old e h =
     let blank : List Bool → List Bool = λ l. l ++ replicate k false in
     let same : ms ≡ replicate k false = h ∙ ap (λ (l : List Bool). blank (take n l)) e ∙ ap blank (take_all {A = Bool} n [] (omega arith)) in
-    subst (λ (l : List Bool). AreMarks l []) (sym same) (none_marked k)
+    subst (λ (l : List Bool). AreTargetMarks l []) (sym same) (none_marked k)

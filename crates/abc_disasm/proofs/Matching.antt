@@ -13,8 +13,8 @@ use Rattle.abc_text_lines.specs.Lines.{Label, Item, Number, Signed, Text, Eight,
 use Rattle.abc_text_lines.specs.Operands.{place_of_label}
 use Rattle.abc_text_lines.specs.Rows.{Head, code_after}
 use Rattle.abc_text_lines.specs.Wordlines.{among, shows_operands}
-use Rattle.abc_text_lines.specs.Listing.{label_of, target_in, targets_in}
-use Rattle.abc_text_lines.specs.Texts.{Raw, Skips, Counts, Step, by_step, is_among, is_taken, labels_set, method_in, row, rows_from, step_of}
+use Rattle.abc_text_lines.specs.Listing.{label_of, target_in, targets_of_line}
+use Rattle.abc_text_lines.specs.Texts.{Raw, Skips, Counts, Step, by_step, is_text_among, is_taken, labels_set, method_named, row_of_raw, rows_of_lines, label_step}
 use Rattle.abc_disasm.proofs.Items.{CanBeShown, items_tokens}
 use Rattle.abc_disasm.proofs.Readback.{AllStand, kept, raw_label, raw_line, raws}
 
@@ -44,34 +44,34 @@ decimals_differ m n p q differ = eq_no (decimal m) (decimal n) (λ e. differ (de
 -- ---- lines that set no label and are no instruction
 
 abbrev pub IsStill : Shown → Type 0
-IsStill (Line w items) = step_of w ≡ Skips
+IsStill (Line w items) = label_step w ≡ Skips
 IsStill (Labels n) = ⊥
 
 -- the label of each of these numbers stands for it
 abbrev pub AreSet : (ℕ → Type 0) → List Label → Type 0
 AreSet leads labels = (n : ℕ) → leads n → place_of_label labels (label_of n) ≡ Some n
 
-line_is : (leads : ℕ → Type 0) (labels : List Label) (number : ℕ) (w : Word) (items : List Item) → AreSet leads labels → AllByRecursion (CanBeShown leads) items → IsLine shows_operands (row (raw_line number w items) labels false) w items
+line_is : (leads : ℕ → Type 0) (labels : List Label) (number : ℕ) (w : Word) (items : List Item) → AreSet leads labels → AllByRecursion (CanBeShown leads) items → IsLine shows_operands (row_of_raw (raw_line number w items) labels false) w items
 line_is leads labels number w items set can = record { word = refl; whole = refl; operands = items_tokens leads labels set items can; once = refl }
 
 pub match_still : (leads : ℕ → Type 0) (labels : List Label) (set : List (List ℕ)) (taken : List (List ℕ)) → AreSet leads labels → (lines : List Shown) → AllStand leads lines → AllByRecursion IsStill lines → (more rest : List Shown)
-    → ((k : ℕ) → Match shows_operands (rows_from labels set taken (raws k more)) rest) → (k : ℕ) → Match shows_operands (rows_from labels set taken (raws k (lines ++ more))) (lines ++ rest)
+    → ((k : ℕ) → Match shows_operands (rows_of_lines labels set taken (raws k more)) rest) → (k : ℕ) → Match shows_operands (rows_of_lines labels set taken (raws k (lines ++ more))) (lines ++ rest)
 match_still leads labels set taken are [] all still more rest h k = h k
 match_still leads labels set taken are (Labels n ∷ lines) all still more rest h k = absurd still.0
 match_still leads labels set taken are (Line w items ∷ lines) all still more rest h k =
     let others = raws (k + 1) (lines ++ more) in
     let raw = raw_line k w items in
-    let rs = rows_from labels set taken others in (
-      row raw labels false,
+    let rs = rows_of_lines labels set taken others in (
+      row_of_raw raw labels false,
       rs,
-      ap (λ (s : Step). by_step s (row raw (labels_set 0 others) (is_taken (method_in raw.operands) taken) ∷ rows_from (labels_set 0 others) [] (method_in raw.operands ++ taken) others) (row raw labels (is_among raw.name set) ∷ rows_from labels (raw.name ∷ set) taken others) (row raw labels false ∷ rs) (row raw labels false ∷ rs)) still.0,
+      ap (λ (s : Step). by_step s (row_of_raw raw (labels_set 0 others) (is_taken (method_named raw.operands) taken) ∷ rows_of_lines (labels_set 0 others) [] (method_named raw.operands ++ taken) others) (row_of_raw raw labels (is_text_among raw.name set) ∷ rows_of_lines labels (raw.name ∷ set) taken others) (row_of_raw raw labels false ∷ rs) (row_of_raw raw labels false ∷ rs)) still.0,
       line_is leads labels k w items are all.0.1,
       match_still leads labels set taken are lines all.1 still.1 more rest h (k + 1),
     )
 
 -- ---- code
 
-module _ {I : Type 0} (head : Head I (Unit {0})) (counts : (i : I) → step_of (head.word i) ≡ Counts) (named : List ℕ) where
+module _ {I : Type 0} (head : Head I (Unit {0})) (counts : (i : I) → label_step (head.word i) ≡ Counts) (named : List ℕ) where
   -- instructions from number j on, with a place for labels before each and at the end
   abbrev pub code_lines : ℕ → List I → List Shown
   code_lines j is = Labels j ∷ code_after head j is
@@ -107,7 +107,7 @@ module _ {I : Type 0} (head : Head I (Unit {0})) (counts : (i : I) → step_of (
 
   -- no label from number j on is set yet
   abbrev pub AreFresh : ℕ → List (List ℕ) → Type 0
-  AreFresh j set = (n : ℕ) → j ≤ n → n < 2 ^ 64 → is_among (label_of n) set ≡ false
+  AreFresh j set = (n : ℕ) → j ≤ n → n < 2 ^ 64 → is_text_among (label_of n) set ≡ false
 
   fresh_next : (j : ℕ) (set : List (List ℕ)) → AreFresh j set → AreFresh (j + 1) set
   fresh_next j set fresh n le lt = fresh n (omega arith) lt
@@ -118,30 +118,30 @@ module _ {I : Type 0} (head : Head I (Unit {0})) (counts : (i : I) → step_of (
       rw differ (fresh n (omega arith) lt)
 
   match_label : (labels : List Label) (taken : List (List ℕ)) (j : ℕ) (lines more shown : List Shown) → j < 2 ^ 64
-      → ((k : ℕ) (set : List (List ℕ)) → AreFresh (j + 1) set → Match shows_operands (rows_from labels set taken (raws k (kept named lines ++ more))) shown)
-      → (k : ℕ) (set : List (List ℕ)) → AreFresh j set → Match shows_operands (rows_from labels set taken (raws k (kept named (Labels j ∷ lines) ++ more))) (Labels j ∷ shown)
+      → ((k : ℕ) (set : List (List ℕ)) → AreFresh (j + 1) set → Match shows_operands (rows_of_lines labels set taken (raws k (kept named lines ++ more))) shown)
+      → (k : ℕ) (set : List (List ℕ)) → AreFresh j set → Match shows_operands (rows_of_lines labels set taken (raws k (kept named (Labels j ∷ lines) ++ more))) (Labels j ∷ shown)
   match_label labels taken j lines more shown small h k set fresh =
       elim (split_bool (among j named)) [
         | inl e ↦
             let raw = raw_label k j in
-            let line : IsLabel (row raw labels (is_among (label_of j) set)) = record { word = refl; whole = refl; operands = refl; once = fresh j (omega arith) small } in
-            rw e (row raw labels (is_among (label_of j) set) ∷ [], rows_from labels (label_of j ∷ set) taken (raws (k + 1) (kept named lines ++ more)), refl, (line, tt), h (k + 1) (label_of j ∷ set) (fresh_more j set small fresh))
-        | inr e ↦ rw e ([], rows_from labels set taken (raws k (kept named lines ++ more)), refl, tt, h k set (fresh_next j set fresh))
+            let line : IsLabel (row_of_raw raw labels (is_text_among (label_of j) set)) = record { word = refl; whole = refl; operands = refl; once = fresh j (omega arith) small } in
+            rw e (row_of_raw raw labels (is_text_among (label_of j) set) ∷ [], rows_of_lines labels (label_of j ∷ set) taken (raws (k + 1) (kept named lines ++ more)), refl, (line, tt), h (k + 1) (label_of j ∷ set) (fresh_more j set small fresh))
+        | inr e ↦ rw e ([], rows_of_lines labels set taken (raws k (kept named lines ++ more)), refl, tt, h k set (fresh_next j set fresh))
       ]
 
   pub match_code : (leads : ℕ → Type 0) (labels : List Label) (taken : List (List ℕ)) → AreSet leads labels → (is : List I) (j : ℕ) → j + length is < 2 ^ 64 → AllStand leads (code_lines j is) → (more rest : List Shown)
-      → ((k : ℕ) (set : List (List ℕ)) → Match shows_operands (rows_from labels set taken (raws k more)) rest)
-      → (k : ℕ) (set : List (List ℕ)) → AreFresh j set → Match shows_operands (rows_from labels set taken (raws k (kept named (code_lines j is) ++ more))) (code_lines j is ++ rest)
+      → ((k : ℕ) (set : List (List ℕ)) → Match shows_operands (rows_of_lines labels set taken (raws k more)) rest)
+      → (k : ℕ) (set : List (List ℕ)) → AreFresh j set → Match shows_operands (rows_of_lines labels set taken (raws k (kept named (code_lines j is) ++ more))) (code_lines j is ++ rest)
   match_code leads labels taken are [] j small all more rest h k set fresh = match_label labels taken j [] more rest (omega arith) (λ k set f. h k set) k set fresh
   match_code leads labels taken are (i ∷ is) j small all more rest h k set fresh =
       match_label labels taken j (code_after head j (i ∷ is)) more (code_after head j (i ∷ is) ++ rest) (omega arith)
       (λ k set f.
       let others = raws (k + 1) (kept named (code_lines (j + 1) is) ++ more) in
       let raw = raw_line k (head.word i) (head.items i) in
-      let rs = rows_from labels set taken others in (
-        row raw labels false,
+      let rs = rows_of_lines labels set taken others in (
+        row_of_raw raw labels false,
         rs,
-        ap (λ (s : Step). by_step s (row raw (labels_set 0 others) (is_taken (method_in raw.operands) taken) ∷ rows_from (labels_set 0 others) [] (method_in raw.operands ++ taken) others) (row raw labels (is_among raw.name set) ∷ rows_from labels (raw.name ∷ set) taken others) (row raw labels false ∷ rs) (row raw labels false ∷ rs)) (counts i),
+        ap (λ (s : Step). by_step s (row_of_raw raw (labels_set 0 others) (is_taken (method_named raw.operands) taken) ∷ rows_of_lines (labels_set 0 others) [] (method_named raw.operands ++ taken) others) (row_of_raw raw labels (is_text_among raw.name set) ∷ rows_of_lines labels (raw.name ∷ set) taken others) (row_of_raw raw labels false ∷ rs) (row_of_raw raw labels false ∷ rs)) (counts i),
         line_is leads labels k (head.word i) (head.items i) are all.1.0.1,
         match_code leads labels taken are is (j + 1) (omega arith) all.1.1 more rest h (k + 1) set f,
       ))
@@ -165,8 +165,8 @@ among_behind n (m ∷ a) b e =
       | inr x ↦ rw x (among_behind n a b e)
     ]
 
-pub two_named : (a b : List Shown) → flat_map targets_in (a ++ b) ≡ flat_map targets_in a ++ flat_map targets_in b
-two_named a b = flat_map-append targets_in a b
+pub two_named : (a b : List Shown) → flat_map targets_of_line (a ++ b) ≡ flat_map targets_of_line a ++ flat_map targets_of_line b
+two_named a b = flat_map-append targets_of_line a b
 
 -- each number that some operands name is among some numbers
 abbrev AreNamed : List ℕ → List ℕ → Type 0
@@ -186,17 +186,17 @@ items_named leads named (Target n ∷ items) are can =
     let here : among n (n ∷ flat_map target_in items) ≡ true = (let e = eq_self n in rw e refl) in
     ((can.0.0, (can.0.1, are n here)), items_named leads named items (λ m e. are m (among_behind m (n ∷ []) (flat_map target_in items) e)) can.1)
 
-lines_named : (leads : ℕ → Type 0) (named : List ℕ) (lines : List Shown) → AreNamed (flat_map targets_in lines) named → AllStand leads lines → AllStand (λ n. leads n × (among n named ≡ true)) lines
+lines_named : (leads : ℕ → Type 0) (named : List ℕ) (lines : List Shown) → AreNamed (flat_map targets_of_line lines) named → AllStand leads lines → AllStand (λ n. leads n × (among n named ≡ true)) lines
 lines_named leads named [] are all = tt
 lines_named leads named (Line w items ∷ lines) are all = (
-  (all.0.0, items_named leads named items (λ n e. are n (among_front n (flat_map target_in items) (flat_map targets_in lines) e)) all.0.1),
-  lines_named leads named lines (λ n e. are n (among_behind n (flat_map target_in items) (flat_map targets_in lines) e)) all.1,
+  (all.0.0, items_named leads named items (λ n e. are n (among_front n (flat_map target_in items) (flat_map targets_of_line lines) e)) all.0.1),
+  lines_named leads named lines (λ n e. are n (among_behind n (flat_map target_in items) (flat_map targets_of_line lines) e)) all.1,
 )
 lines_named leads named (Labels n ∷ lines) are all = (all.0, lines_named leads named lines are all.1)
 
 -- the numbers that some lines name are among those that they name
-pub named_stand : (leads : ℕ → Type 0) (lines : List Shown) → AllStand leads lines → AllStand (λ n. leads n × (among n (flat_map targets_in lines) ≡ true)) lines
-named_stand leads lines all = lines_named leads (flat_map targets_in lines) lines (λ n e. e) all
+pub named_stand : (leads : ℕ → Type 0) (lines : List Shown) → AllStand leads lines → AllStand (λ n. leads n × (among n (flat_map targets_of_line lines) ≡ true)) lines
+named_stand leads lines all = lines_named leads (flat_map targets_of_line lines) lines (λ n e. e) all
 
 pub kept_still : (named : List ℕ) (lines : List Shown) → AllByRecursion IsStill lines → kept named lines ≡ lines
 kept_still named [] still = refl

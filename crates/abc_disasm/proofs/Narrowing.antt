@@ -8,9 +8,9 @@ use Rattle.abc_disasm.specs.Texts.{body_targets, code_text, definitions_text, in
 use Rattle.abc_disasm.proofs.Rendering.{listing_is}
 use Rattle.abc_disasm.proofs.Shown.{name_line_is}
 use Rattle.abc_file.specs.Narrow.{HasNoApplytype, IsNarrow, has_params, is_applytype}
-use Rattle.abc_text_lines.specs.Kinds.{multiname_kind, multiname_word}
-use Rattle.abc_text_lines.specs.Lineforms.{instruction_line, kind_in, multiname_fields, name_line, opcode_of}
-use Rattle.abc_text_lines.specs.Listing.{comment_of, listing, name_comment, name_in, token_of}
+use Rattle.abc_text_lines.specs.Kinds.{multiname_kind_operand, multiname_word}
+use Rattle.abc_text_lines.specs.Lineforms.{instruction_operands, kind_in, multiname_operands, name_line, opcode_of}
+use Rattle.abc_text_lines.specs.Listing.{comment_of, listing, name_comment, string_of_name, token_of}
 use Rattle.abc_text_lines.specs.Texts.{or_else}
 use Rattle.abc_file_types.specs.declared.code.Body.{Body}
 use Rattle.abc_file_types.specs.declared.code.Instr.{Instr}
@@ -23,7 +23,7 @@ use Rattle.abc_file_types.specs.declared.tables.Abc.{Abc}
 use Rattle.abc_file_types.specs.Bodies.{IsReadyBody}
 use Rattle.abc_file_types.specs.Classes.{sizes_of}
 use Rattle.abc_file_types.specs.Opcodes as opcodes
-use Rattle.abc_file_types.specs.Opcodes.{form_at, info_at, name_at, named}
+use Rattle.abc_file_types.specs.Opcodes.{form_at, info_at, name_at, names_of_opcodes}
 use Rattle.abc_file_types.specs.Ready.{AllCanSpell, CanSpell}
 use Rattle.abc_text_lines.specs.declared.word.Word.TheVariants as words
 use Rattle.abc_text_lines.specs.Tokens.{Bare}
@@ -83,10 +83,10 @@ left_out op (row ∷ rows) e =
 
 module _ (v : Abc) where
   name_same : (m : Multiname) → has_params m ≡ false → narrow_name v m ≡ name_text v m
-  unfolding name_line multiname_kind
+  unfolding name_line multiname_kind_operand
   name_same m e =
-      let fields = (multiname_fields (sizes_of v) (kind_in m)).items m in
-      ap (λ (w : List ℕ). written_line (Bare (codes "name") ∷ Bare w ∷ map token_of fields) ++ (name_comment v (name_in (Some m)) ++ 0x0a ∷ [])) (word_is m e)
+      let fields = (multiname_operands (sizes_of v) (kind_in m)).items m in
+      ap (λ (w : List ℕ). written_line (Bare (codes "name") ∷ Bare w ∷ map token_of fields) ++ (name_comment v (string_of_name (Some m)) ++ 0x0a ∷ [])) (word_is m e)
       ∙ ap (λ (n : ℕ). written_line (Bare (codes "name") ∷ Bare (multiname_word (kind_in m)) ∷ map token_of fields) ++ (name_comment v n ++ 0x0a ∷ [])) (sym (name_line_is (sizes_of v) m))
 
   names_same : (ms : List Multiname) → AllByRecursion (λ m. has_params m ≡ false) ms → flat_map (narrow_name v) ms ≡ flat_map (name_text v) ms
@@ -96,8 +96,8 @@ module _ (v : Abc) where
   instr_same : (k : ℕ) (i : Instr) → CanSpell k i → is_applytype i ≡ false → narrow_instr v i ≡ instr_text v i
   unfolding name_at
   instr_same k i can e =
-      let items = (instruction_line (opcode_of i)).items i in
-      ap (λ (o : Option (List ℕ)). written_line (Bare (or_else o []) ∷ map token_of items) ++ (comment_of v (words.Instruction (opcode_of i)) items ++ 0x0a ∷ [])) (left_out (opcode_of i) named (other_opcode k i can e))
+      let items = (instruction_operands (opcode_of i)).items i in
+      ap (λ (o : Option (List ℕ)). written_line (Bare (or_else o []) ∷ map token_of items) ++ (comment_of v (words.Instruction (opcode_of i)) items ++ 0x0a ∷ [])) (left_out (opcode_of i) names_of_opcodes (other_opcode k i can e))
 
   code_same : (k : ℕ) (named : List ℕ) (n : ℕ) (is : List Instr) → AllCanSpell k is → AllByRecursion (λ i. is_applytype i ≡ false) is → narrow_code v named n is ≡ code_text v named n is
   code_same k named n [] can all = refl

@@ -20,9 +20,9 @@ use Rattle.abc_file_types.specs.declared.traits.TraitKind.TheVariants as traits
 use Rattle.abc_file_types.specs.Opcodes.{form_at, info_at}
 use Rattle.abc_file_types.specs.Traits.{trait_kind_in}
 use Rattle.abc_file_types.specs.Ready.{AllUpTo, CanSpell}
-use Rattle.abc_text_lines.specs.Operands.{Operand, any_number, any_signed, eight, entry_upto, index_below, index_upto, is_name, number_below, several_items, target, text, u30}
-use Rattle.abc_text_lines.specs.Kinds.{multiname_kind, multiname_word, space_kind, space_word, trait_kind, trait_word, value_kind, value_word}
-use Rattle.abc_text_lines.specs.Lineforms.{alone, body_line, catch_line, double_line, entry_line, implements_line, instance_line, instruction_line, int_line, kind_in, method_index_line, method_line, multiname_fields, name_line, namespace_line, number_line, opcode_of, option_line, pair_fields, param_line, protected_line, set_line, slot_fields, slot_rest, slot_value, string_index_line, string_line, trait_fields, trait_line, trait_metadata_line, trait_rest, uint_line}
+use Rattle.abc_text_lines.specs.Operands.{Operand, any_number, any_signed, eight, entry_upto, index_operand_below, index_upto, is_name, number_below, several_items, target, text_operand, u30_operand}
+use Rattle.abc_text_lines.specs.Kinds.{multiname_kind_operand, multiname_word, space_kind, space_word, trait_kind_operand, trait_word, value_kind_operand, value_word}
+use Rattle.abc_text_lines.specs.Lineforms.{one_operand_alone, body_line, catch_line, double_line, entry_line, implements_line, instance_line, instruction_operands, int_line, kind_in, method_index_line, method_line, multiname_operands, name_line, namespace_line, number_line, opcode_of, option_line, pair_fields, param_line, protected_line, set_line, slot_fields, slot_rest, slot_value_operand, string_index_line, string_line, trait_operands, trait_line, trait_metadata_line, trait_rest, uint_line}
 use Rattle.abc_disasm.specs.Bytes.{HasByteFields}
 use Rattle.abc_disasm.proofs.ReadHeads.{IsHead, instruction_head}
 use Rattle.abc_disasm.proofs.Items.{CanBeShown}
@@ -80,7 +80,7 @@ trait_name traits.Class = refl
 trait_name traits.Function = refl
 
 module _ (leads : ℕ → Type 0) where
-  alone-shown : {A : Type 0} (p : Operand A) → IsShown leads p → AreShown leads (alone p)
+  alone-shown : {A : Type 0} (p : Operand A) → IsShown leads p → AreShown leads (one_operand_alone p)
   alone-shown p shown x fits = (shown x fits.0.0, tt)
 
   -- ---- pools
@@ -99,7 +99,7 @@ module _ (leads : ℕ → Type 0) where
   double_shown d some all = ((some, all), tt)
 
   pub string_shown : (b : List ℕ) → AllByRecursion (λ b. b < 256) b → AllByRecursion (CanBeShown leads) (string_line.items b)
-  unfolding string_line text
+  unfolding string_line text_operand
   string_shown b all = (all, tt)
 
   module _ (v : Sizes) where
@@ -111,7 +111,7 @@ module _ (leads : ℕ → Type 0) where
     unfolding set_line
     set-shown = several-shown leads (entry_upto v.namespaces) (entry_upto-shown leads v.namespaces)
 
-    fields-shown : (k : MultinameKind) → AreShown leads (multiname_fields v k)
+    fields-shown : (k : MultinameKind) → AreShown leads (multiname_operands v k)
     fields-shown (kinds.QName attr) x fits = (index_upto-shown leads v.namespaces _ fits.0.0, (index_upto-shown leads v.strings _ fits.0.1.0, tt))
     fields-shown (kinds.Rt attr) x fits = (index_upto-shown leads v.strings _ fits.0.0, tt)
     fields-shown (kinds.RtL attr) x fits = tt
@@ -120,7 +120,7 @@ module _ (leads : ℕ → Type 0) where
     fields-shown kinds.TypeName x fits = (entry_upto-shown leads v.names _ fits.0.0, several-shown leads (index_upto v.names) (index_upto-shown leads v.names) _ fits.0.1)
 
     pub name-shown : AreShown leads (name_line v)
-    unfolding name_line multiname_kind
+    unfolding name_line multiname_kind_operand
     name-shown x fits = (multiname_name (kind_in x), fields-shown (kind_in x) x fits.0.1)
 
     -- ---- methods and metadata
@@ -134,12 +134,12 @@ module _ (leads : ℕ → Type 0) where
     param-shown = alone-shown (index_upto v.names) (index_upto-shown leads v.names)
 
     pub option-shown : AreShown leads (option_line v)
-    unfolding option_line value_kind
+    unfolding option_line value_kind_operand
     option-shown x fits = (value_name x.kind, (u30-shown leads _ fits.0.1.0.0, tt))
 
     pub number-shown : AreShown leads number_line
     unfolding number_line
-    number-shown = alone-shown u30 (u30-shown leads)
+    number-shown = alone-shown u30_operand (u30-shown leads)
 
     pub string_index-shown : AreShown leads (string_index_line v)
     unfolding string_index_line
@@ -165,17 +165,17 @@ module _ (leads : ℕ → Type 0) where
 
     pub method_index-shown : AreShown leads (method_index_line v)
     unfolding method_index_line
-    method_index-shown = alone-shown (index_below v.methods) (index_below-shown leads v.methods)
+    method_index-shown = alone-shown (index_operand_below v.methods) (index_below-shown leads v.methods)
 
     -- ---- traits
 
     slot_rest-shown : (n : ℕ) → AreShown leads (slot_rest v (Some n))
-    unfolding value_kind
+    unfolding value_kind_operand
     slot_rest-shown zero x fits = tt
     slot_rest-shown (suc n) x fits = (value_name _, tt)
 
-    slot_value-shown : AreShown leads (slot_value v)
-    unfolding slot_value
+    slot_value-shown : AreShown leads (slot_value_operand v)
+    unfolding slot_value_operand
     slot_value-shown x fits = (u30-shown leads _ fits.0.0, slot_rest-shown _ _ fits.0.1)
 
     slot_fields-shown : AreShown leads (slot_fields v)
@@ -184,7 +184,7 @@ module _ (leads : ℕ → Type 0) where
     pair_fields-shown : (size : ℕ) → AreShown leads (pair_fields size)
     pair_fields-shown size x fits = (u30-shown leads _ fits.0, (index_below-shown leads size _ fits.1.0, tt))
 
-    trait_fields-shown : (k : TraitKind) → AreShown leads (trait_fields v k)
+    trait_fields-shown : (k : TraitKind) → AreShown leads (trait_operands v k)
     trait_fields-shown traits.Slot x fits = slot_fields-shown _ fits.0
     trait_fields-shown traits.Const x fits = slot_fields-shown _ fits.0
     trait_fields-shown traits.Method x fits = pair_fields-shown v.methods _ fits.0
@@ -197,12 +197,12 @@ module _ (leads : ℕ → Type 0) where
     trait_rest-shown k x fits = (number_below-shown leads 16 (omega arith) _ fits.0.0, (entry_upto-shown leads v.names _ fits.0.1.0, trait_fields-shown k _ fits.0.1.1))
 
     pub trait-shown : AreShown leads (trait_line v)
-    unfolding trait_line trait_kind
+    unfolding trait_line trait_kind_operand
     trait-shown x fits = (trait_name (trait_kind_in x.body), trait_rest-shown (trait_kind_in x.body) x fits.0.1)
 
     pub trait_metadata-shown : AreShown leads (trait_metadata_line v)
     unfolding trait_metadata_line
-    trait_metadata-shown = alone-shown (index_below v.metadata) (index_below-shown leads v.metadata)
+    trait_metadata-shown = alone-shown (index_operand_below v.metadata) (index_below-shown leads v.metadata)
 
     -- ---- bodies
 
@@ -235,22 +235,22 @@ UpTo k n = n ≤ k
 
 module _ (k : ℕ) (small : k < 2 ^ 64) where
   abbrev pub ItemsShown : Instr → Type 0
-  ItemsShown i = AllByRecursion (CanBeShown (UpTo k)) ((instruction_line (opcode_of i)).items i)
+  ItemsShown i = AllByRecursion (CanBeShown (UpTo k)) ((instruction_operands (opcode_of i)).items i)
 
   plain_shown : (op : ℕ) → form_at op ≡ Some forms.Plain → ItemsShown (instrs.Plain op)
-  unfolding instruction_line
+  unfolding instruction_operands
   plain_shown op e = rw e tt
 
   one_shown : (op n : ℕ) → form_at op ≡ Some forms.One → n < 2 ^ 30 → ItemsShown (instrs.One op n)
-  unfolding instruction_line any_number
+  unfolding instruction_operands any_number
   one_shown op n e lt = rw e (omega arith, tt)
 
   two_shown : (op n m : ℕ) → form_at op ≡ Some forms.Two → n < 2 ^ 30 → m < 2 ^ 30 → ItemsShown (instrs.Two op n m)
-  unfolding instruction_line any_number
+  unfolding instruction_operands any_number
   two_shown op n m e lt lt2 = rw e (omega arith, (omega arith, tt))
 
   branch_shown : (op t : ℕ) → form_at op ≡ Some forms.Branch → t ≤ k → ItemsShown (instrs.Branch op t)
-  unfolding instruction_line target
+  unfolding instruction_operands target
   branch_shown op t e le = rw e ((omega arith, le), tt)
 
   targets_shown : (ts : List ℕ) → AllUpTo k ts → AllByRecursion (CanBeShown (UpTo k)) (several_items target ts)
@@ -259,7 +259,7 @@ module _ (k : ℕ) (small : k < 2 ^ 64) where
   targets_shown (t ∷ ts) up = let le = up.0 in ((omega arith, le), targets_shown ts up.1)
 
   switch_shown : (t : ℕ) (ts : List ℕ) → t ≤ k → AllUpTo k ts → 0 < length ts → ItemsShown (instrs.Switch t ts)
-  unfolding instruction_line form_at info_at target
+  unfolding instruction_operands form_at info_at target
   switch_shown t [] le up some = absurd (omega arith)
   switch_shown t (c ∷ cs) le up some = ((omega arith, le), targets_shown (c ∷ cs) up)
 
@@ -272,19 +272,19 @@ module _ (k : ℕ) (small : k < 2 ^ 64) where
   short_size (negsuc n) low high = let lt : suc n < 2 ^ 64 = omega (arith, ints) in lt
 
   byte_shown : (z : ℤ) → size_of z < 2 ^ 64 → ItemsShown (instrs.Byte z)
-  unfolding instruction_line form_at info_at any_signed
+  unfolding instruction_operands form_at info_at any_signed
   byte_shown z lt = (lt, tt)
 
   short_shown : (z : ℤ) → size_of z < 2 ^ 64 → ItemsShown (instrs.Short z)
-  unfolding instruction_line form_at info_at any_signed
+  unfolding instruction_operands form_at info_at any_signed
   short_shown z lt = (lt, tt)
 
   scope_shown : (n : ℕ) → n < 256 → ItemsShown (instrs.ScopeObject n)
-  unfolding instruction_line form_at info_at any_number
+  unfolding instruction_operands form_at info_at any_number
   scope_shown n lt = (omega arith, tt)
 
   debug_shown : (kind name reg extra : ℕ) → kind < 256 → name < 2 ^ 30 → reg < 256 → extra < 2 ^ 30 → ItemsShown (instrs.Debug kind name reg extra)
-  unfolding instruction_line form_at info_at any_number
+  unfolding instruction_operands form_at info_at any_number
   debug_shown kind name reg extra a b c d = (omega arith, (omega arith, (omega arith, (omega arith, tt))))
 
   pub instr_shown : (i : Instr) → CanSpell k i → HasByteFields i → ItemsShown i

@@ -4,7 +4,7 @@ use Rattle.std.specs.List.{AllByRecursion, flat_map}
 use Rattle.std.specs.declared.option.Option.{Option}
 use Rattle.abc_text_lines.specs.declared.word.Word.{Word}
 use Rattle.abc_text_lines.specs.declared.word.Word.TheVariants as words
-use Rattle.abc_text_lines.specs.Scanning.{Scan, scan, scanned}
+use Rattle.abc_text_lines.specs.Scanning.{Scan, scan, scan_of}
 use Rattle.abc_text_lines.specs.Tokens.{Token, Bare}
 use Rattle.abc_text_lines.specs.Writing.{written_line}
 use Rattle.abc_text_lines.proofs.Bools.{split_bool}
@@ -14,8 +14,8 @@ use Rattle.abc_file_types.specs.declared.tables.Abc.{Abc}
 use Rattle.abc_text_lines.specs.Lines.{Item, Number, Signed, Text, Eight, Kind, Target, Shown, Line, Labels}
 use Rattle.abc_text_lines.specs.Operands.{is_name}
 use Rattle.abc_text_lines.specs.Wordlines.{among}
-use Rattle.abc_text_lines.specs.Listing.{comment_of, label_bytes, label_of, line_bytes, rendered, token_of, word_name}
-use Rattle.abc_text_lines.specs.Texts.{Raw, before_colon, before_colon_more, if_name, lines_in, or_else, raw_of, raws_from, token_name, word_of}
+use Rattle.abc_text_lines.specs.Listing.{comment_of, label_bytes, label_of, line_bytes, listing_bytes, token_of, word_name}
+use Rattle.abc_text_lines.specs.Texts.{Raw, before_colon, before_colon_more, if_name, lines_in, or_else, raws_of_scan, raws_from, token_name, word_of_text}
 use Rattle.abc_disasm.proofs.ReadHeads.{IsHead}
 use Rattle.abc_disasm.proofs.Items.{CanBeShown, IsFine, all_append, fine_writable, items_fine, line_feed, word_fine}
 use Rattle.abc_disasm.proofs.Remarks.{IsRemark, remark_is}
@@ -81,7 +81,7 @@ abbrev pub exact : Abc → Shown → List ℕ
 exact v (Line w items) = line_bytes v w items
 exact v (Labels n) = label_bytes n
 
-pub rendered_kept : (v : Abc) (named : List ℕ) (lines : List Shown) → rendered v named lines ≡ flat_map (exact v) (kept named lines)
+pub rendered_kept : (v : Abc) (named : List ℕ) (lines : List Shown) → listing_bytes v named lines ≡ flat_map (exact v) (kept named lines)
 rendered_kept v named [] = refl
 rendered_kept v named (Line w items ∷ lines) = ap (λ (l : List ℕ). line_bytes v w items ++ l) (rendered_kept v named lines)
 rendered_kept v named (Labels n ∷ lines) =
@@ -110,12 +110,12 @@ regroup : (a c rest : List ℕ) → (a ++ (c ++ 0x0a ∷ [])) ++ rest ≡ (a ++ 
 regroup a c rest = append_assoc a (c ++ 0x0a ∷ []) rest ∙ ap (λ (l : List ℕ). a ++ l) (append_assoc c (0x0a ∷ []) rest) ∙ sym (append_assoc a c (0x0a ∷ rest))
 
 -- a line whose bytes are known, before others
-one_line : (number : ℕ) (tokens : List Token) (comment rest : List ℕ) → AllByRecursion IsFine tokens → IsRemark comment → raws_from number (lines_in ((written_line tokens ++ (comment ++ 0x0a ∷ [])) ++ rest)) ≡ raw_of number (scanned false tokens) (raws_from (number + 1) (lines_in rest))
+one_line : (number : ℕ) (tokens : List Token) (comment rest : List ℕ) → AllByRecursion IsFine tokens → IsRemark comment → raws_from number (lines_in ((written_line tokens ++ (comment ++ 0x0a ∷ [])) ++ rest)) ≡ raws_of_scan number (scan_of false tokens) (raws_from (number + 1) (lines_in rest))
 one_line number tokens comment rest fine remark =
     let line = written_line tokens ++ comment in
     ap (λ (l : List ℕ). raws_from number (lines_in l)) (regroup (written_line tokens) comment rest)
     ∙ ap (raws_from number) (feed_ends line rest (all_append IsNoFeed (written_line tokens) comment (line_feed tokens fine) remark.feed))
-    ∙ ap (λ (s : Scan). raw_of number s (raws_from (number + 1) (lines_in rest))) (tokens_scanned tokens false line (line_has tokens comment (fine_writable tokens fine) remark.is))
+    ∙ ap (λ (s : Scan). raws_of_scan number s (raws_from (number + 1) (lines_in rest))) (tokens_scanned tokens false line (line_has tokens comment (fine_writable tokens fine) remark.is))
 
 -- ---- label lines
 
@@ -124,8 +124,8 @@ colon_last [] = refl
 colon_last (b ∷ []) = refl
 colon_last (b ∷ c ∷ name) = ap (before_colon_more b) (colon_last (c ∷ name))
 
-capital_word : (rest : List ℕ) → word_of (0x4c ∷ rest) ≡ if_name (before_colon (0x4c ∷ rest))
-unfolding word_of
+capital_word : (rest : List ℕ) → word_of_text (0x4c ∷ rest) ≡ if_name (before_colon (0x4c ∷ rest))
+unfolding word_of_text
 capital_word rest = refl
 
 name_label : (name : List ℕ) → is_name name ≡ true → if_name (Some name) ≡ words.Label
@@ -134,7 +134,7 @@ name_label name e = rw e refl
 abbrev label_token : ℕ → List ℕ
 label_token n = label_of n ++ 0x3a ∷ []
 
-label_word : (n : ℕ) → n < 2 ^ 64 → word_of (label_token n) ≡ words.Label
+label_word : (n : ℕ) → n < 2 ^ 64 → word_of_text (label_token n) ≡ words.Label
 label_word n lt = capital_word _ ∙ ap if_name (colon_last (label_of n)) ∙ name_label (label_of n) (label_name n lt)
 
 solid_colon : (word : List ℕ) → IsWord word → IsWord (word ++ 0x3a ∷ [])

@@ -17,7 +17,7 @@ use Rattle.abc_file_types.specs.declared.opcodes.Form.TheVariants as forms
 use Rattle.abc_file_types.specs.declared.tables.Abc.{Abc}
 use Rattle.abc_file_types.specs.declared.tables.Sizes.{Sizes}
 use Rattle.abc_file_types.specs.declared.traits.TraitInfo.{TraitInfo}
-use Rattle.abc_file_types.specs.Bodies.{IsReadyBody, IsWithin}
+use Rattle.abc_file_types.specs.Bodies.{IsReadyBody, IsHandlerWithin}
 use Rattle.abc_file_types.specs.Classes.{sizes_of}
 use Rattle.abc_file_types.specs.CodeBytes.{code_len, instr_len}
 use Rattle.abc_file_types.specs.Opcodes.{form_at, info_at}
@@ -26,19 +26,19 @@ use Rattle.abc_text_lines.specs.Law.{Match}
 use Rattle.abc_text_lines.specs.Lines.{Row, Shown, Line, Labels}
 use Rattle.abc_text_lines.specs.Operands.{Operands, any_number, any_signed, several_items, target}
 use Rattle.abc_text_lines.specs.Rows.{AllFit, Faults, code_after}
-use Rattle.abc_text_lines.specs.Wordlines.{flat, shows_operands}
-use Rattle.abc_text_lines.specs.Answers.{IsAssemblyOf, outline, table}
+use Rattle.abc_text_lines.specs.Wordlines.{flat_lines, shows_operands}
+use Rattle.abc_text_lines.specs.Answers.{IsAssemblyOf, outline, file_rows}
 use Rattle.abc_text_lines.specs.File as file
-use Rattle.abc_text_lines.specs.Lineforms.{body_line, by_form, catch_line, instruction_line, opcode_of, trait_metadata_line}
+use Rattle.abc_text_lines.specs.Lineforms.{body_line, operands_by_form, catch_line, instruction_operands, opcode_of, trait_metadata_line}
 use Rattle.abc_text_lines.specs.Listing.{quiet_lines}
-use Rattle.abc_text_lines.specs.Texts.{Skips, Step, by_step, lines_in, raws_from, rows_of, step_of}
+use Rattle.abc_text_lines.specs.Texts.{Skips, Step, by_step, lines_in, raws_from, rows_of, label_step}
 use Rattle.abc_disasm.proofs.Bodyparts.{catches_of, code_of, plain_body, plain_lines, rest_of}
 use Rattle.abc_disasm.proofs.Fitting.{body_head}
 use Rattle.abc_disasm.proofs.Places.{Behind, EndsBody, IsInner, LineUpTo, TargetUpTo, behind_lines, body_below, count_of}
 
 -- ---- the forms of instructions
 
-plain_form : (op : ℕ) (o : Option Form) → (by_form op o).fits (instrs.Plain op) → o ≡ Some forms.Plain
+plain_form : (op : ℕ) (o : Option Form) → (operands_by_form op o).fits (instrs.Plain op) → o ≡ Some forms.Plain
 plain_form op None h = absurd h
 plain_form op (Some forms.Plain) h = refl
 plain_form op (Some forms.One) h = let e = h.1 in absurd cc
@@ -50,7 +50,7 @@ plain_form op (Some forms.Short) h = let e = h.1 in absurd cc
 plain_form op (Some forms.ScopeObject) h = let e = h.1 in absurd cc
 plain_form op (Some forms.Debug) h = let e = h.1 in absurd cc
 
-one_form : (op n : ℕ) (o : Option Form) → (by_form op o).fits (instrs.One op n) → o ≡ Some forms.One
+one_form : (op n : ℕ) (o : Option Form) → (operands_by_form op o).fits (instrs.One op n) → o ≡ Some forms.One
 one_form op n None h = absurd h
 one_form op n (Some forms.One) h = refl
 one_form op n (Some forms.Plain) h = let e = h.1 in absurd cc
@@ -62,7 +62,7 @@ one_form op n (Some forms.Short) h = let e = h.1 in absurd cc
 one_form op n (Some forms.ScopeObject) h = let e = h.1 in absurd cc
 one_form op n (Some forms.Debug) h = let e = h.1 in absurd cc
 
-two_form : (op n m : ℕ) (o : Option Form) → (by_form op o).fits (instrs.Two op n m) → o ≡ Some forms.Two
+two_form : (op n m : ℕ) (o : Option Form) → (operands_by_form op o).fits (instrs.Two op n m) → o ≡ Some forms.Two
 two_form op n m None h = absurd h
 two_form op n m (Some forms.Two) h = refl
 two_form op n m (Some forms.Plain) h = let e = h.1 in absurd cc
@@ -74,7 +74,7 @@ two_form op n m (Some forms.Short) h = let e = h.1 in absurd cc
 two_form op n m (Some forms.ScopeObject) h = let e = h.1 in absurd cc
 two_form op n m (Some forms.Debug) h = let e = h.1 in absurd cc
 
-branch_form : (op t : ℕ) (o : Option Form) → (by_form op o).fits (instrs.Branch op t) → o ≡ Some forms.Branch
+branch_form : (op t : ℕ) (o : Option Form) → (operands_by_form op o).fits (instrs.Branch op t) → o ≡ Some forms.Branch
 branch_form op t None h = absurd h
 branch_form op t (Some forms.Branch) h = refl
 branch_form op t (Some forms.Plain) h = let e = h.1 in absurd cc
@@ -93,34 +93,34 @@ below30 x e = grind (arith, nat_tests)
 
 module _ (k : ℕ) where
   abbrev InstrFits : Instr → Type 0
-  InstrFits i = (instruction_line (opcode_of i)).fits i
+  InstrFits i = (instruction_operands (opcode_of i)).fits i
 
   abbrev InstrUpTo : Instr → Type 0
-  InstrUpTo i = AllByRecursion (TargetUpTo k) ((instruction_line (opcode_of i)).items i)
+  InstrUpTo i = AllByRecursion (TargetUpTo k) ((instruction_operands (opcode_of i)).items i)
 
   plain_can : (op : ℕ) → InstrFits (instrs.Plain op) → CanSpell k (instrs.Plain op)
-  unfolding instruction_line
+  unfolding instruction_operands
   plain_can op fits = plain_form op (form_at op) fits
 
   one_can : (op n : ℕ) → InstrFits (instrs.One op n) → CanSpell k (instrs.One op n)
-  unfolding instruction_line
+  unfolding instruction_operands
   one_can op n fits =
       let e = one_form op n (form_at op) fits in
-      let there = subst (λ (o : Option Form). (by_form op o).fits (instrs.One op n)) e fits in
+      let there = subst (λ (o : Option Form). (operands_by_form op o).fits (instrs.One op n)) e fits in
       (e, below30 n there.0.0.1)
 
   two_can : (op n m : ℕ) → InstrFits (instrs.Two op n m) → CanSpell k (instrs.Two op n m)
-  unfolding instruction_line
+  unfolding instruction_operands
   two_can op n m fits =
       let e = two_form op n m (form_at op) fits in
-      let there = subst (λ (o : Option Form). (by_form op o).fits (instrs.Two op n m)) e fits in
+      let there = subst (λ (o : Option Form). (operands_by_form op o).fits (instrs.Two op n m)) e fits in
       (e, below30 n there.0.0.1, below30 m there.0.1.0.1)
 
   branch_can : (op t : ℕ) → InstrFits (instrs.Branch op t) → InstrUpTo (instrs.Branch op t) → CanSpell k (instrs.Branch op t)
-  unfolding instruction_line target
+  unfolding instruction_operands target
   branch_can op t fits up =
       let e = branch_form op t (form_at op) fits in
-      let there = subst (λ (o : Option Form). AllByRecursion (TargetUpTo k) ((by_form op o).items (instrs.Branch op t))) e up in
+      let there = subst (λ (o : Option Form). AllByRecursion (TargetUpTo k) ((operands_by_form op o).items (instrs.Branch op t))) e up in
       (e, there.0)
 
   each_up : (ts : List ℕ) → AllByRecursion (TargetUpTo k) (several_items target ts) → AllUpTo k ts
@@ -133,20 +133,20 @@ module _ (k : ℕ) where
   cases_of _ = []
 
   switch_can : (t : ℕ) (ts : List ℕ) → InstrFits (instrs.Switch t ts) → InstrUpTo (instrs.Switch t ts) → instr_len (instrs.Switch t ts) < 2 ^ 23 → CanSpell k (instrs.Switch t ts)
-  unfolding instruction_line form_at info_at target cases_of
+  unfolding instruction_operands form_at info_at target cases_of
   switch_can t [] fits up short = absurd (let e : 0 ∷ [] ≡ [] = ap cases_of fits.1 in cc)
   switch_can t (c ∷ cs) fits up short = (up.0, (up.1.0, each_up cs up.1.1), omega arith, omega arith)
 
   byte_can : (z : ℤ) → InstrFits (instrs.Byte z) → CanSpell k (instrs.Byte z)
-  unfolding instruction_line form_at info_at any_signed
+  unfolding instruction_operands form_at info_at any_signed
   byte_can z fits = let both = and_true (int_le (negsuc 127) z) (int_le z (pos 127)) fits.0.0.1 in let a = both.0 in let b = both.1 in (omega (arith, ints), omega (arith, ints))
 
   short_can : (z : ℤ) → InstrFits (instrs.Short z) → CanSpell k (instrs.Short z)
-  unfolding instruction_line form_at info_at any_signed
+  unfolding instruction_operands form_at info_at any_signed
   short_can z fits = let both = and_true (int_le (negsuc 32767) z) (int_le z (pos 32767)) fits.0.0.1 in let a = both.0 in let b = both.1 in (omega (arith, ints), omega (arith, ints))
 
   debug_can : (kind name reg extra : ℕ) → InstrFits (instrs.Debug kind name reg extra) → CanSpell k (instrs.Debug kind name reg extra)
-  unfolding instruction_line form_at info_at
+  unfolding instruction_operands form_at info_at
   debug_can kind name reg extra fits = (below30 name fits.0.1.0.1, below30 extra fits.0.1.1.1.0.1)
 
   instr_can : (i : Instr) → InstrFits i → InstrUpTo i → instr_len i < 2 ^ 23 → CanSpell k i
@@ -163,7 +163,7 @@ module _ (k : ℕ) where
 -- ---- lines that only skip
 
 abbrev IsSkipping : Shown → Type 0
-IsSkipping (Line w items) = step_of w ≡ Skips
+IsSkipping (Line w items) = label_step w ≡ Skips
 IsSkipping (Labels n) = ⊥
 
 skipping_inner : (lines : List Shown) → AllByRecursion IsSkipping lines → AllByRecursion IsInner lines
@@ -189,7 +189,7 @@ two_count [] b = omega arith
 two_count (Line w items ∷ a) b = let more = two_count a b in omega (arith, more)
 two_count (Labels n ∷ a) b = two_count a b
 
-flat_skips : {A : Type 0} (faults : Faults) (w : Word) (p : Operands A) (n : ℕ) → step_of w ≡ Skips → (xs : List A) → AllByRecursion IsSkipping ((flat faults w p n).shows xs)
+flat_skips : {A : Type 0} (faults : Faults) (w : Word) (p : Operands A) (n : ℕ) → label_step w ≡ Skips → (xs : List A) → AllByRecursion IsSkipping ((flat_lines faults w p n).shows xs)
 flat_skips faults w p n e [] = tt
 flat_skips faults w p n e (x ∷ xs) = (e, flat_skips faults w p n e xs)
 
@@ -207,7 +207,7 @@ module _ (v : Abc) where
   unfolding file.traits
   traits_skip [] = tt
   traits_skip (t ∷ ts) =
-      (refl, two_all IsSkipping ((flat fs words.TraitMetadata (trait_metadata_line s) 0).shows t.metadata) ((file.traits s i fs 0).shows ts) (flat_skips fs words.TraitMetadata (trait_metadata_line s) 0 refl t.metadata) (traits_skip ts))
+      (refl, two_all IsSkipping ((flat_lines fs words.TraitMetadata (trait_metadata_line s) 0).shows t.metadata) ((file.traits s i fs 0).shows ts) (flat_skips fs words.TraitMetadata (trait_metadata_line s) 0 refl t.metadata) (traits_skip ts))
 
   rest_skips : (b : Body) → AllByRecursion IsSkipping (rest_of v b)
   rest_skips b = two_all IsSkipping (catches_of v b) ((file.traits s i fs 0).shows b.traits) (flat_skips fs words.Catch (catch_line s) 0 refl b.handlers) (traits_skip b.traits)
@@ -232,11 +232,11 @@ module _ (v : Abc) where
   code_can k j [] fits up short = tt
   code_can k j (x ∷ is) fits up short = (instr_can k x fits.0 up.1.0 (omega arith), code_can k (j + 1) is fits.1 up.1.1 (omega arith))
 
-  within : (k : ℕ) (h : Handler) → AllByRecursion (TargetUpTo k) ((catch_line s).items h) → IsWithin k h
+  within : (k : ℕ) (h : Handler) → AllByRecursion (TargetUpTo k) ((catch_line s).items h) → IsHandlerWithin k h
   unfolding catch_line target any_number
   within k h up = record { from = up.0; to = up.1.0; target = up.1.1.0 }
 
-  all_within : (k : ℕ) (hs : List Handler) → AllByRecursion (LineUpTo k) ((flat fs words.Catch (catch_line s) 0).shows hs) → AllByRecursion (IsWithin k) hs
+  all_within : (k : ℕ) (hs : List Handler) → AllByRecursion (LineUpTo k) ((flat_lines fs words.Catch (catch_line s) 0).shows hs) → AllByRecursion (IsHandlerWithin k) hs
   all_within k [] up = tt
   all_within k (h ∷ hs) up = (within k h up.0, all_within k hs up.1)
 
@@ -248,7 +248,7 @@ module _ (v : Abc) where
       let short : code_len b.code < 2 ^ 23 = grind (arith, nat_tests) in
       record {
         code = record { can = code_can k 0 b.code fits parts.0 short; short = short };
-        places = All-from_recursion (IsWithin k) b.handlers (all_within k b.handlers more.0);
+        places = All-from_recursion (IsHandlerWithin k) b.handlers (all_within k b.handlers more.0);
       }
 
   -- ---- all bodies
@@ -267,7 +267,7 @@ module _ (v : Abc) where
       let next = behind_lines (plain_body v b) more rows behind match in
       (body_ready b fits.0.1 fits.1.0 (subst (λ (k : ℕ). AllByRecursion (LineUpTo k) lines) (count_is b) up), bodies_ready bs fits.2 next.0 next.1 next.2)
 
-  table_bodies : (table v).fits (outline v) → (file.body_lines s i 0).fits v.bodies
+  table_bodies : (file_rows v).fits (outline v) → (file.body_lines s i 0).fits v.bodies
   unfolding file.file
   table_bodies fits = fits.1.1.1.1.1.1
 

@@ -8,9 +8,9 @@ use Rattle.abc_file_types.specs.declared.code.Instr.TheVariants as instrs
 use Rattle.abc_file_types.specs.Bodies.{IsReadyBody}
 use Rattle.abc_file_types.specs.CodeBytes.{code_len, instr_len}
 use Rattle.abc_file_types.specs.Ready.{AllCanSpell, CanSpell}
-use Rattle.abc_disasm.specs.Texts.{IsShown}
+use Rattle.abc_disasm.specs.Texts.{HasShownForm}
 
-one_shown : (n : ℕ) (i : Instr) → CanSpell n i → IsShown i
+one_shown : (n : ℕ) (i : Instr) → CanSpell n i → HasShownForm i
 one_shown n (instrs.Plain op) can = can
 one_shown n (instrs.One op x) can = can.0
 one_shown n (instrs.Two op x y) can = can.0
@@ -21,12 +21,12 @@ one_shown n (instrs.Short z) can = tt
 one_shown n (instrs.ScopeObject x) can = tt
 one_shown n (instrs.Debug kind name reg extra) can = tt
 
-each_shown : (n : ℕ) (is : List Instr) → AllCanSpell n is → AllByRecursion IsShown is
+each_shown : (n : ℕ) (is : List Instr) → AllCanSpell n is → AllByRecursion HasShownForm is
 each_shown n [] can = tt
 each_shown n (i ∷ is) can = (one_shown n i can.0, each_shown n is can.1)
 
-pub shown : (b : Body) → IsReadyBody b → All IsShown b.code
-shown b ready = All-from_recursion IsShown b.code (each_shown (length b.code) b.code ready.code.can)
+pub shown : (b : Body) → IsReadyBody b → All HasShownForm b.code
+shown b ready = All-from_recursion HasShownForm b.code (each_shown (length b.code) b.code ready.code.can)
 
 one_long : (i : Instr) → 1 ≤ instr_len i
 one_long (instrs.Plain op) = omega arith

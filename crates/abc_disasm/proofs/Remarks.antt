@@ -1,7 +1,7 @@
 -- What ends a line is a comment, of whatever text it shows.
 use Rattle.std.proofs.Common.{ℕ, ◌-◌, inl, inr, Bool, true, false, if◌then◌else◌, ◌&&◌, nat_eq, nat_le, List, [], ◌∷◌, ◌++◌, codes, length, take, slice_get, refl}
 use Rattle.std.specs.List.{AllByRecursion}
-use Rattle.abc_base.specs.Escapes.{escaped}
+use Rattle.abc_base.specs.Escapes.{with_escapes}
 use Rattle.abc_text_lines.specs.declared.word.Word.{Word}
 use Rattle.abc_text_lines.specs.declared.word.Word.TheVariants as words
 use Rattle.abc_text_lines.specs.Writing.{IsComment}
@@ -11,7 +11,7 @@ use Rattle.abc_file_types.specs.declared.tables.Abc.{Abc}
 use Rattle.abc_text_lines.specs.Lines.{Item, Number, Kind}
 use Rattle.abc_text_lines.specs.Wordlines.{lookup}
 use Rattle.abc_text_lines.specs.Kinds.{multiname_words}
-use Rattle.abc_text_lines.specs.Listing.{comment_of, multiname_comment, name_comment, name_in, name_shown, operand_comment, pool_shown, quoted_comment, string_at}
+use Rattle.abc_text_lines.specs.Listing.{comment_of, multiname_comment, name_comment, string_of_name, name_shown, operand_comment, pool_shown, quoted_comment, string_at}
 use Rattle.abc_disasm.proofs.Items.{all_append, escaped_feed}
 use Rattle.abc_disasm.proofs.Runs.{IsNoFeed}
 
@@ -25,8 +25,8 @@ nothing_is = record { is = inl refl; feed = tt }
 
 quoted_is : (text : List ℕ) → IsRemark (quoted_comment text)
 quoted_is text = record {
-  is = inr (0x20 ∷ 0x22 ∷ (escaped (take 16 text) ++ codes "\""), refl);
-  feed = (refl, (refl, (refl, (refl, all_append IsNoFeed (escaped (take 16 text)) (codes "\"") (escaped_feed (take 16 text)) (refl, tt)))));
+  is = inr (0x20 ∷ 0x22 ∷ (with_escapes (take 16 text) ++ codes "\""), refl);
+  feed = (refl, (refl, (refl, (refl, all_append IsNoFeed (with_escapes (take 16 text)) (codes "\"") (escaped_feed (take 16 text)) (refl, tt)))));
 }
 
 star_is : IsRemark (codes " ; *")
@@ -40,7 +40,7 @@ name_is : (v : Abc) (n : ℕ) → IsRemark (name_comment v n)
 name_is v n = either_is (nat_eq n 0) (codes " ; *") (quoted_comment (string_at v n)) star_is (quoted_is (string_at v n))
 
 multiname_is : (v : Abc) (n : ℕ) → IsRemark (multiname_comment v n)
-multiname_is v n = name_is v (name_in (slice_get v.names (n - 1)))
+multiname_is v n = name_is v (string_of_name (slice_get v.names (n - 1)))
 
 operand_is : (v : Abc) (pool : Pool) (n : ℕ) → IsRemark (operand_comment v pool n)
 operand_is v pools.Name n = either_is (nat_le 1 n && nat_le n (length v.names)) (multiname_comment v n) [] (multiname_is v n) nothing_is

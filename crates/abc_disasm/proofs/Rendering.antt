@@ -29,17 +29,17 @@ use Rattle.abc_file_types.specs.Classes.{sizes_of}
 use Rattle.abc_file_types.specs.Traits.{trait_kind_in}
 use Rattle.abc_text_lines.specs.Lines.{Item, Number, Shown, Line, Labels}
 use Rattle.abc_text_lines.specs.Operands.{Operands, any_number, several_items, target}
-use Rattle.abc_text_lines.specs.Rows.{Faults, Head, Rows, code_after, items_shown, nothing}
-use Rattle.abc_text_lines.specs.Wordlines.{always, closed_to, flat, line}
-use Rattle.abc_text_lines.specs.Answers.{instance_head, instance_in, metadata_lines, outline, pairs}
+use Rattle.abc_text_lines.specs.Rows.{Faults, Head, Rows, code_after, items_shown, empty_rows}
+use Rattle.abc_text_lines.specs.Wordlines.{always, closed_to, flat_lines, lines_of_word}
+use Rattle.abc_text_lines.specs.Answers.{instance_head, instance_parts, metadata_lines, outline, pairs}
 use Rattle.abc_text_lines.specs.File as file
-use Rattle.abc_text_lines.specs.Kinds.{trait_kind, value_kind}
-use Rattle.abc_text_lines.specs.Lineforms.{BodyHead, MethodHead, TraitHead, body_line, catch_line, double_line, int_line, name_line, namespace_line, set_line, string_line, uint_line, entry_line, implements_line, instance_line, instruction_line, method_index_line, method_line, number_line, opcode_of, option_line, param_line, protected_line, slot_value, string_index_line, trait_fields, trait_line, trait_metadata_line}
-use Rattle.abc_text_lines.specs.Listing.{body_text, line_bytes, lines_of_body, listing, quiet_lines, rendered, shown_bytes, target_in, targets_in}
+use Rattle.abc_text_lines.specs.Kinds.{trait_kind_operand, value_kind_operand}
+use Rattle.abc_text_lines.specs.Lineforms.{BodyHead, MethodHead, TraitHead, body_line, catch_line, double_line, int_line, name_line, namespace_line, set_line, string_line, uint_line, entry_line, implements_line, instance_line, instruction_operands, method_index_line, method_line, number_line, opcode_of, option_line, param_line, protected_line, slot_value_operand, string_index_line, trait_operands, trait_line, trait_metadata_line}
+use Rattle.abc_text_lines.specs.Listing.{body_text, line_bytes, lines_of_body, listing, quiet_lines, listing_bytes, shown_bytes, target_in, targets_of_line}
 use Rattle.abc_disasm.specs.Texts as texts
 use Rattle.abc_text_writer.specs.Numbers as tokens
 use Rattle.abc_text_writer.specs.Numbers.{number_lines}
-use Rattle.abc_disasm.specs.Texts.{IsShown, body_targets, class_text, code_text, definitions_text, entry_text, front_text, handler_targets, handler_text, instance_text, instr_targets, instr_text, metadata_text, method_text, option_text, pools_text, protected_text, script_text, trait_text, version_text, whole_body, whole_text}
+use Rattle.abc_disasm.specs.Texts.{HasShownForm, body_targets, class_text, code_text, definitions_text, entry_text, front_text, handler_targets, handler_text, instance_text, instr_targets, instr_text, metadata_text, method_text, option_text, pools_text, protected_text, script_text, trait_text, version_text, whole_body, whole_text}
 use Rattle.abc_disasm.proofs.PutForms.{branch_items, byte_items, debug_items, one_items, plain_items, scope_items, short_items, switch_items, two_items}
 use Rattle.abc_disasm.proofs.Readiness.{shown}
 
@@ -47,13 +47,13 @@ use Rattle.abc_disasm.proofs.Readiness.{shown}
 
 module _ (v : Abc) (named : List ℕ) where
   abbrev shows : List Shown → List ℕ
-  shows lines = rendered v named lines
+  shows lines = listing_bytes v named lines
 
   two : (a b : List Shown) → shows (a ++ b) ≡ shows a ++ shows b
   two a b = flat_map-append (shown_bytes v named) a b
 
   -- lines of one word
-  flat_shows : {A : Type 0} (w : Word) (p : Operands A) (f : A → List ℕ) → ((x : A) → line_bytes v w (p.items x) ≡ f x) → (xs : List A) → shows (items_shown (line w p always) nothing (map (λ (x : A). (x, tt)) xs)) ≡ flat_map f xs
+  flat_shows : {A : Type 0} (w : Word) (p : Operands A) (f : A → List ℕ) → ((x : A) → line_bytes v w (p.items x) ≡ f x) → (xs : List A) → shows (items_shown (lines_of_word w p always) empty_rows (map (λ (x : A). (x, tt)) xs)) ≡ flat_map f xs
   flat_shows w p f e [] = refl
   flat_shows w p f e (x ∷ xs) = let a = e x in let b = flat_shows w p f e xs in rw (a, b) refl
 
@@ -70,7 +70,7 @@ module _ (v : Abc) (named : List ℕ) where
       ∙ ap (λ (l : List ℕ). f y ++ l) (many_shows head below g f e ys)
 
 -- a line of a word and a number
-number_is : (word : List ℕ) (n : ℕ) → (word ++ (0x20 ∷ (decimal n ++ []))) ++ (0x0a ∷ []) ≡ tokens.number_line word n
+number_is : (word : List ℕ) (n : ℕ) → (word ++ (0x20 ∷ (decimal n ++ []))) ++ (0x0a ∷ []) ≡ tokens.number_line_bytes word n
 number_is word n = append_assoc word (0x20 ∷ (decimal n ++ [])) (0x0a ∷ []) ∙ ap (λ (l : List ℕ). word ++ (0x20 ∷ (l ++ 0x0a ∷ []))) (append-nil (decimal n))
 
 module _ (v : Abc) where
@@ -83,39 +83,39 @@ module _ (v : Abc) where
   abbrev fs : Faults
   fs = file.faults s i
 
-  param_is : (n : ℕ) → line_bytes v words.Param ((param_line s).items n) ≡ tokens.number_line (codes "param") n
+  param_is : (n : ℕ) → line_bytes v words.Param ((param_line s).items n) ≡ tokens.number_line_bytes (codes "param") n
   unfolding param_line any_number
   param_is n = number_is (codes "param") n
 
-  pname_is : (n : ℕ) → line_bytes v words.ParamName (number_line.items n) ≡ tokens.number_line (codes "pname") n
+  pname_is : (n : ℕ) → line_bytes v words.ParamName (number_line.items n) ≡ tokens.number_line_bytes (codes "pname") n
   unfolding number_line any_number
   pname_is n = number_is (codes "pname") n
 
-  metadata_is : (n : ℕ) → line_bytes v words.Metadata ((string_index_line s).items n) ≡ tokens.number_line (codes "metadata") n
+  metadata_is : (n : ℕ) → line_bytes v words.Metadata ((string_index_line s).items n) ≡ tokens.number_line_bytes (codes "metadata") n
   unfolding string_index_line any_number
   metadata_is n = number_is (codes "metadata") n
 
-  protected_is : (n : ℕ) → line_bytes v words.Protected ((protected_line s).items n) ≡ tokens.number_line (codes "protected") n
+  protected_is : (n : ℕ) → line_bytes v words.Protected ((protected_line s).items n) ≡ tokens.number_line_bytes (codes "protected") n
   unfolding protected_line any_number
   protected_is n = number_is (codes "protected") n
 
-  implements_is : (n : ℕ) → line_bytes v words.Implements ((implements_line s).items n) ≡ tokens.number_line (codes "implements") n
+  implements_is : (n : ℕ) → line_bytes v words.Implements ((implements_line s).items n) ≡ tokens.number_line_bytes (codes "implements") n
   unfolding implements_line any_number
   implements_is n = number_is (codes "implements") n
 
-  iinit_is : (n : ℕ) → line_bytes v words.Initializer ((method_index_line s).items n) ≡ tokens.number_line (codes "iinit") n
+  iinit_is : (n : ℕ) → line_bytes v words.Initializer ((method_index_line s).items n) ≡ tokens.number_line_bytes (codes "iinit") n
   unfolding method_index_line any_number
   iinit_is n = number_is (codes "iinit") n
 
-  class_is : (n : ℕ) → line_bytes v words.Class ((method_index_line s).items n) ≡ tokens.number_line (codes "class") n
+  class_is : (n : ℕ) → line_bytes v words.Class ((method_index_line s).items n) ≡ tokens.number_line_bytes (codes "class") n
   unfolding method_index_line any_number
   class_is n = number_is (codes "class") n
 
-  script_is : (n : ℕ) → line_bytes v words.Script ((method_index_line s).items n) ≡ tokens.number_line (codes "script") n
+  script_is : (n : ℕ) → line_bytes v words.Script ((method_index_line s).items n) ≡ tokens.number_line_bytes (codes "script") n
   unfolding method_index_line any_number
   script_is n = number_is (codes "script") n
 
-  tmeta_is : (n : ℕ) → line_bytes v words.TraitMetadata ((trait_metadata_line s).items n) ≡ tokens.number_line (codes "tmeta") n
+  tmeta_is : (n : ℕ) → line_bytes v words.TraitMetadata ((trait_metadata_line s).items n) ≡ tokens.number_line_bytes (codes "tmeta") n
   unfolding trait_metadata_line any_number
   tmeta_is n = number_is (codes "tmeta") n
 
@@ -126,94 +126,94 @@ module _ (v : Abc) where
   -- ---- tables
 
   abbrev Metas : ℕ → Rows (List ℕ)
-  Metas n = closed_to file.skipped (flat fs words.TraitMetadata (trait_metadata_line s) n)
+  Metas n = closed_to file.skipped_words (flat_lines fs words.TraitMetadata (trait_metadata_line s) n)
 
   abbrev trait_head : TraitInfo → TraitHead
   trait_head t = record { attrs = t.attrs; name = t.name; body = t.body }
 
-  traits_are : (named : List ℕ) (n : ℕ) (ts : List TraitInfo) → rendered v named ((file.traits s i fs n).shows ts) ≡ flat_map (trait_text v) ts
+  traits_are : (named : List ℕ) (n : ℕ) (ts : List TraitInfo) → listing_bytes v named ((file.traits s i fs n).shows ts) ≡ flat_map (trait_text v) ts
   unfolding file.traits
   traits_are named n ts =
-      many_shows v named (line words.Trait (trait_line s) (file.MetadataAgrees s i)) (Metas n) (λ (t : TraitInfo). (trait_head t, t.metadata)) (trait_text v)
-      (λ t. ap (λ (l : List ℕ). line_bytes v words.Trait ((trait_line s).items (trait_head t)) ++ l) (flat_shows v named words.TraitMetadata (trait_metadata_line s) (tokens.number_line (codes "tmeta")) tmeta_is t.metadata)) ts
+      many_shows v named (lines_of_word words.Trait (trait_line s) (file.MetadataAgrees s i)) (Metas n) (λ (t : TraitInfo). (trait_head t, t.metadata)) (trait_text v)
+      (λ t. ap (λ (l : List ℕ). line_bytes v words.Trait ((trait_line s).items (trait_head t)) ++ l) (flat_shows v named words.TraitMetadata (trait_metadata_line s) (tokens.number_line_bytes (codes "tmeta")) tmeta_is t.metadata)) ts
 
   abbrev method_head : Method → MethodHead
   method_head m = record { ret = m.ret; name = m.name; flags = m.flags }
 
-  method_below_is : (m : Method) → rendered v [] ((file.method_below s i 0).shows (m.params, (m.options, m.param_names))) ≡ number_lines (codes "param") m.params ++ (flat_map (option_text v) m.options ++ number_lines (codes "pname") m.param_names)
+  method_below_is : (m : Method) → listing_bytes v [] ((file.method_below s i 0).shows (m.params, (m.options, m.param_names))) ≡ number_lines (codes "param") m.params ++ (flat_map (option_text v) m.options ++ number_lines (codes "pname") m.param_names)
   unfolding file.method_below
   method_below_is m =
-      let a = (flat fs words.Param (param_line s) 0).shows m.params in
-      let b = (flat fs words.Optional (option_line s) 0).shows m.options in
-      let c = (flat fs words.ParamName number_line 0).shows m.param_names in
+      let a = (flat_lines fs words.Param (param_line s) 0).shows m.params in
+      let b = (flat_lines fs words.Optional (option_line s) 0).shows m.options in
+      let c = (flat_lines fs words.ParamName number_line 0).shows m.param_names in
       two v [] a (b ++ c)
-      ∙ ap (λ (l : List ℕ). rendered v [] a ++ l) (two v [] b c)
-      ∙ ap (λ (l : List ℕ). l ++ (rendered v [] b ++ rendered v [] c)) (flat_shows v [] words.Param (param_line s) (tokens.number_line (codes "param")) param_is m.params)
-      ∙ ap (λ (l : List ℕ). number_lines (codes "param") m.params ++ (l ++ rendered v [] c)) (flat_shows v [] words.Optional (option_line s) (option_text v) (λ x. refl) m.options)
-      ∙ ap (λ (l : List ℕ). number_lines (codes "param") m.params ++ (flat_map (option_text v) m.options ++ l)) (flat_shows v [] words.ParamName number_line (tokens.number_line (codes "pname")) pname_is m.param_names)
+      ∙ ap (λ (l : List ℕ). listing_bytes v [] a ++ l) (two v [] b c)
+      ∙ ap (λ (l : List ℕ). l ++ (listing_bytes v [] b ++ listing_bytes v [] c)) (flat_shows v [] words.Param (param_line s) (tokens.number_line_bytes (codes "param")) param_is m.params)
+      ∙ ap (λ (l : List ℕ). number_lines (codes "param") m.params ++ (l ++ listing_bytes v [] c)) (flat_shows v [] words.Optional (option_line s) (option_text v) (λ x. refl) m.options)
+      ∙ ap (λ (l : List ℕ). number_lines (codes "param") m.params ++ (flat_map (option_text v) m.options ++ l)) (flat_shows v [] words.ParamName number_line (tokens.number_line_bytes (codes "pname")) pname_is m.param_names)
 
-  methods_are : (ms : List Method) → rendered v [] ((file.methods s i 0).shows ms) ≡ flat_map (method_text v) ms
+  methods_are : (ms : List Method) → listing_bytes v [] ((file.methods s i 0).shows ms) ≡ flat_map (method_text v) ms
   unfolding file.methods
   methods_are ms =
-      many_shows v [] (line words.Method (method_line s) (file.MethodAgrees s i)) (file.method_below s i 0) (λ (m : Method). (method_head m, (m.params, (m.options, m.param_names)))) (method_text v)
+      many_shows v [] (lines_of_word words.Method (method_line s) (file.MethodAgrees s i)) (file.method_below s i 0) (λ (m : Method). (method_head m, (m.params, (m.options, m.param_names)))) (method_text v)
       (λ m. ap (λ (l : List ℕ). line_bytes v words.Method ((method_line s).items (method_head m)) ++ l) (method_below_is m)) ms
 
-  metadata_are : (ms : List Metadata) → rendered v [] ((file.metadata s i 0).shows (map metadata_lines ms)) ≡ flat_map (metadata_text v) ms
+  metadata_are : (ms : List Metadata) → listing_bytes v [] ((file.metadata s i 0).shows (map metadata_lines ms)) ≡ flat_map (metadata_text v) ms
   unfolding file.metadata
   metadata_are ms =
-      many_shows v [] (line words.Metadata (string_index_line s) always) (flat fs words.Entry (entry_line s) 0) metadata_lines (metadata_text v)
+      many_shows v [] (lines_of_word words.Metadata (string_index_line s) always) (flat_lines fs words.Entry (entry_line s) 0) metadata_lines (metadata_text v)
       (λ m.
-      ap (λ (l : List ℕ). l ++ rendered v [] ((flat fs words.Entry (entry_line s) 0).shows (pairs m.items))) (metadata_is m.name)
-      ∙ ap (λ (l : List ℕ). tokens.number_line (codes "metadata") m.name ++ l) (flat_shows v [] words.Entry (entry_line s) (entry_text v) (λ x. refl) (pairs m.items)))
+      ap (λ (l : List ℕ). l ++ listing_bytes v [] ((flat_lines fs words.Entry (entry_line s) 0).shows (pairs m.items))) (metadata_is m.name)
+      ∙ ap (λ (l : List ℕ). tokens.number_line_bytes (codes "metadata") m.name ++ l) (flat_shows v [] words.Entry (entry_line s) (entry_text v) (λ x. refl) (pairs m.items)))
       ms
 
-  protected_are : (o : Option ℕ) → rendered v [] ((flat fs words.Protected (protected_line s) 0).shows (option_to_list o)) ≡ protected_text v o
+  protected_are : (o : Option ℕ) → listing_bytes v [] ((flat_lines fs words.Protected (protected_line s) 0).shows (option_to_list o)) ≡ protected_text v o
   protected_are None = refl
   protected_are (Some n) = append-nil (line_bytes v words.Protected ((protected_line s).items n)) ∙ protected_is n
 
-  instance_below_is : (x : Instance) → rendered v [] ((file.instance_below s i 0).shows (instance_in x).1) ≡ protected_text v x.protected_ns ++ (number_lines (codes "implements") x.interfaces ++ (tokens.number_line (codes "iinit") x.iinit ++ flat_map (trait_text v) x.traits))
+  instance_below_is : (x : Instance) → listing_bytes v [] ((file.instance_below s i 0).shows (instance_parts x).1) ≡ protected_text v x.protected_ns ++ (number_lines (codes "implements") x.interfaces ++ (tokens.number_line_bytes (codes "iinit") x.iinit ++ flat_map (trait_text v) x.traits))
   unfolding file.instance_below
   instance_below_is x =
-      let a = (flat fs words.Protected (protected_line s) 0).shows (option_to_list x.protected_ns) in
-      let b = (flat fs words.Implements (implements_line s) 0).shows x.interfaces in
+      let a = (flat_lines fs words.Protected (protected_line s) 0).shows (option_to_list x.protected_ns) in
+      let b = (flat_lines fs words.Implements (implements_line s) 0).shows x.interfaces in
       let t = (file.traits s i fs 0).shows x.traits in
       let c = Line words.Initializer ((method_index_line s).items x.iinit) ∷ t in
       two v [] a (b ++ c)
-      ∙ ap (λ (l : List ℕ). rendered v [] a ++ l) (two v [] b c)
-      ∙ ap (λ (l : List ℕ). l ++ (rendered v [] b ++ rendered v [] c)) (protected_are x.protected_ns)
-      ∙ ap (λ (l : List ℕ). protected_text v x.protected_ns ++ (l ++ rendered v [] c)) (flat_shows v [] words.Implements (implements_line s) (tokens.number_line (codes "implements")) implements_is x.interfaces)
-      ∙ ap (λ (l : List ℕ). protected_text v x.protected_ns ++ (number_lines (codes "implements") x.interfaces ++ (l ++ rendered v [] t))) (iinit_is x.iinit)
-      ∙ ap (λ (l : List ℕ). protected_text v x.protected_ns ++ (number_lines (codes "implements") x.interfaces ++ (tokens.number_line (codes "iinit") x.iinit ++ l))) (traits_are [] 0 x.traits)
+      ∙ ap (λ (l : List ℕ). listing_bytes v [] a ++ l) (two v [] b c)
+      ∙ ap (λ (l : List ℕ). l ++ (listing_bytes v [] b ++ listing_bytes v [] c)) (protected_are x.protected_ns)
+      ∙ ap (λ (l : List ℕ). protected_text v x.protected_ns ++ (l ++ listing_bytes v [] c)) (flat_shows v [] words.Implements (implements_line s) (tokens.number_line_bytes (codes "implements")) implements_is x.interfaces)
+      ∙ ap (λ (l : List ℕ). protected_text v x.protected_ns ++ (number_lines (codes "implements") x.interfaces ++ (l ++ listing_bytes v [] t))) (iinit_is x.iinit)
+      ∙ ap (λ (l : List ℕ). protected_text v x.protected_ns ++ (number_lines (codes "implements") x.interfaces ++ (tokens.number_line_bytes (codes "iinit") x.iinit ++ l))) (traits_are [] 0 x.traits)
 
-  instances_are : (is : List Instance) → rendered v [] ((file.instance_lines s i 0).shows (map instance_in is)) ≡ flat_map (instance_text v) is
+  instances_are : (is : List Instance) → listing_bytes v [] ((file.instance_lines s i 0).shows (map instance_parts is)) ≡ flat_map (instance_text v) is
   unfolding file.instance_lines
   instances_are is =
-      many_shows v [] (line words.Instance (instance_line s) (file.InstanceAgrees s i)) (file.instance_below s i 0) instance_in (instance_text v)
+      many_shows v [] (lines_of_word words.Instance (instance_line s) (file.InstanceAgrees s i)) (file.instance_below s i 0) instance_parts (instance_text v)
       (λ x. ap (λ (l : List ℕ). line_bytes v words.Instance ((instance_line s).items (instance_head x)) ++ l) (instance_below_is x)) is
 
-  classes_are : (cs : List ClassInfo) → rendered v [] ((file.classes s i 0).shows cs) ≡ flat_map (class_text v) cs
+  classes_are : (cs : List ClassInfo) → listing_bytes v [] ((file.classes s i 0).shows cs) ≡ flat_map (class_text v) cs
   unfolding file.classes
   classes_are cs =
-      many_shows v [] (line words.Class (method_index_line s) (file.ClassAgrees s i)) (file.traits s i fs 0) (λ (c : ClassInfo). (c.cinit, c.traits)) (class_text v)
-      (λ c. ap (λ (l : List ℕ). l ++ rendered v [] ((file.traits s i fs 0).shows c.traits)) (class_is c.cinit) ∙ ap (λ (l : List ℕ). tokens.number_line (codes "class") c.cinit ++ l) (traits_are [] 0 c.traits)) cs
+      many_shows v [] (lines_of_word words.Class (method_index_line s) (file.ClassAgrees s i)) (file.traits s i fs 0) (λ (c : ClassInfo). (c.cinit, c.traits)) (class_text v)
+      (λ c. ap (λ (l : List ℕ). l ++ listing_bytes v [] ((file.traits s i fs 0).shows c.traits)) (class_is c.cinit) ∙ ap (λ (l : List ℕ). tokens.number_line_bytes (codes "class") c.cinit ++ l) (traits_are [] 0 c.traits)) cs
 
-  scripts_are : (ss : List Script) → rendered v [] ((file.scripts s i 0).shows ss) ≡ flat_map (script_text v) ss
+  scripts_are : (ss : List Script) → listing_bytes v [] ((file.scripts s i 0).shows ss) ≡ flat_map (script_text v) ss
   unfolding file.scripts
   scripts_are ss =
-      many_shows v [] (line words.Script (method_index_line s) always) (file.traits s i fs 0) (λ (c : Script). (c.init, c.traits)) (script_text v)
-      (λ c. ap (λ (l : List ℕ). l ++ rendered v [] ((file.traits s i fs 0).shows c.traits)) (script_is c.init) ∙ ap (λ (l : List ℕ). tokens.number_line (codes "script") c.init ++ l) (traits_are [] 0 c.traits)) ss
+      many_shows v [] (lines_of_word words.Script (method_index_line s) always) (file.traits s i fs 0) (λ (c : Script). (c.init, c.traits)) (script_text v)
+      (λ c. ap (λ (l : List ℕ). l ++ listing_bytes v [] ((file.traits s i fs 0).shows c.traits)) (script_is c.init) ∙ ap (λ (l : List ℕ). tokens.number_line_bytes (codes "script") c.init ++ l) (traits_are [] 0 c.traits)) ss
 
-  pools_are : rendered v [] ((file.pools s i 0).shows (outline v).0) ≡ pools_text v
+  pools_are : listing_bytes v [] ((file.pools s i 0).shows (outline v).0) ≡ pools_text v
   unfolding file.pools
   pools_are =
-      let a = (flat fs words.Int int_line 0).shows v.ints in
-      let b = (flat fs words.UInt uint_line 0).shows v.uints in
-      let c = (flat fs words.Double double_line 0).shows v.doubles in
-      let d = (flat fs words.Text string_line 0).shows v.strings in
-      let e = (flat fs words.Namespace (namespace_line s) 0).shows v.namespaces in
-      let f = (flat fs words.Set (set_line s) 0).shows v.sets in
-      let g = (flat fs words.Name (name_line s) 0).shows v.names in
-      let r = λ (l : List Shown). rendered v [] l in
+      let a = (flat_lines fs words.Int int_line 0).shows v.ints in
+      let b = (flat_lines fs words.UInt uint_line 0).shows v.uints in
+      let c = (flat_lines fs words.Double double_line 0).shows v.doubles in
+      let d = (flat_lines fs words.Text string_line 0).shows v.strings in
+      let e = (flat_lines fs words.Namespace (namespace_line s) 0).shows v.namespaces in
+      let f = (flat_lines fs words.Set (set_line s) 0).shows v.sets in
+      let g = (flat_lines fs words.Name (name_line s) 0).shows v.names in
+      let r = λ (l : List Shown). listing_bytes v [] l in
       let fa = flat_map (texts.int_text v) v.ints in
       let fb = flat_map (texts.uint_text v) v.uints in
       let fc = flat_map (texts.double_text v) v.doubles in
@@ -234,16 +234,16 @@ module _ (v : Abc) where
       ∙ ap (λ (l : List ℕ). fa ++ (fb ++ (fc ++ (fd ++ (fe ++ (l ++ r g)))))) (flat_shows v [] words.Set (set_line s) (texts.set_text v) (λ x. refl) v.sets)
       ∙ ap (λ (l : List ℕ). fa ++ (fb ++ (fc ++ (fd ++ (fe ++ (ff ++ l)))))) (flat_shows v [] words.Name (name_line s) (texts.name_text v) (λ x. refl) v.names)
 
-  pub quiet_are : rendered v [] (quiet_lines v) ≡ front_text v
+  pub quiet_are : listing_bytes v [] (quiet_lines v) ≡ front_text v
   quiet_are =
       let p = (file.pools s i 0).shows (outline v).0 in
       let m = (file.methods s i 0).shows v.methods in
       let d = (file.metadata s i 0).shows (map metadata_lines v.metadata) in
-      let x = (file.instance_lines s i 0).shows (map instance_in v.instances) in
+      let x = (file.instance_lines s i 0).shows (map instance_parts v.instances) in
       let c = (file.classes s i 0).shows v.classes in
       let z = (file.scripts s i 0).shows v.scripts in
       let first = line_bytes v words.Abc (Number 16 ∷ Number 46 ∷ []) in
-      let r = λ (l : List Shown). rendered v [] l in
+      let r = λ (l : List Shown). listing_bytes v [] l in
       let fx = flat_map (instance_text v) v.instances in
       let fc = flat_map (class_text v) v.classes in
       let fz = flat_map (script_text v) v.scripts in
@@ -262,7 +262,7 @@ module _ (v : Abc) where
 
   -- ---- bodies
 
-  code_is : (named : List ℕ) (k : ℕ) (is : List Instr) → rendered v named (Labels k ∷ code_after (file.instructions s i) k is) ≡ code_text v named k is
+  code_is : (named : List ℕ) (k : ℕ) (is : List Instr) → listing_bytes v named (Labels k ∷ code_after (file.instructions s i) k is) ≡ code_text v named k is
   code_is named k [] = append-nil (texts.label_if named k)
   code_is named k (x ∷ is) = ap (λ (l : List ℕ). texts.label_if named k ++ (instr_text v x ++ l)) (code_is named (k + 1) is)
 
@@ -270,23 +270,23 @@ module _ (v : Abc) where
   body_head b = record { method = b.method; max_stack = b.max_stack; local_count = b.local_count; init_scope = b.init_scope; max_scope = b.max_scope }
 
   abbrev below_lines : Body → List Shown
-  below_lines b = (Labels 0 ∷ code_after (file.instructions s i) 0 b.code) ++ ((flat fs words.Catch (catch_line s) 0).shows b.handlers ++ (file.traits s i fs 0).shows b.traits)
+  below_lines b = (Labels 0 ∷ code_after (file.instructions s i) 0 b.code) ++ ((flat_lines fs words.Catch (catch_line s) 0).shows b.handlers ++ (file.traits s i fs 0).shows b.traits)
 
   body_lines_are : (b : Body) → lines_of_body v b ≡ Line words.Body ((body_line s).items (body_head b)) ∷ below_lines b
   unfolding file.body_lines file.body_below
   body_lines_are b = ap (λ (l : List Shown). Line words.Body ((body_line s).items (body_head b)) ∷ l) (append-nil (below_lines b))
 
-  body_shown : (named : List ℕ) (b : Body) → rendered v named (lines_of_body v b) ≡ texts.body_head_text v b ++ (code_text v named 0 b.code ++ (flat_map (handler_text v) b.handlers ++ flat_map (trait_text v) b.traits))
+  body_shown : (named : List ℕ) (b : Body) → listing_bytes v named (lines_of_body v b) ≡ texts.body_head_text v b ++ (code_text v named 0 b.code ++ (flat_map (handler_text v) b.handlers ++ flat_map (trait_text v) b.traits))
   body_shown named b =
       let first = texts.body_head_text v b in
       let c = Labels 0 ∷ code_after (file.instructions s i) 0 b.code in
-      let h = (flat fs words.Catch (catch_line s) 0).shows b.handlers in
+      let h = (flat_lines fs words.Catch (catch_line s) 0).shows b.handlers in
       let t = (file.traits s i fs 0).shows b.traits in
-      ap (λ (l : List Shown). rendered v named l) (body_lines_are b)
+      ap (λ (l : List Shown). listing_bytes v named l) (body_lines_are b)
       ∙ ap (λ (l : List ℕ). first ++ l) (two v named c (h ++ t))
-      ∙ ap (λ (l : List ℕ). first ++ (rendered v named c ++ l)) (two v named h t)
-      ∙ ap (λ (l : List ℕ). first ++ (l ++ (rendered v named h ++ rendered v named t))) (code_is named 0 b.code)
-      ∙ ap (λ (l : List ℕ). first ++ (code_text v named 0 b.code ++ (l ++ rendered v named t))) (flat_shows v named words.Catch (catch_line s) (handler_text v) (λ x. refl) b.handlers)
+      ∙ ap (λ (l : List ℕ). first ++ (listing_bytes v named c ++ l)) (two v named h t)
+      ∙ ap (λ (l : List ℕ). first ++ (l ++ (listing_bytes v named h ++ listing_bytes v named t))) (code_is named 0 b.code)
+      ∙ ap (λ (l : List ℕ). first ++ (code_text v named 0 b.code ++ (l ++ listing_bytes v named t))) (flat_shows v named words.Catch (catch_line s) (handler_text v) (λ x. refl) b.handlers)
       ∙ ap (λ (l : List ℕ). first ++ (code_text v named 0 b.code ++ (flat_map (handler_text v) b.handlers ++ l))) (traits_are named 0 b.traits)
 
   -- ---- targets
@@ -299,7 +299,7 @@ module _ (v : Abc) where
   abbrev in_items : List Item → List ℕ
   in_items items = flat_map target_in items
 
-  instr_named : (x : Instr) → IsShown x → in_items ((instruction_line (opcode_of x)).items x) ≡ instr_targets x
+  instr_named : (x : Instr) → HasShownForm x → in_items ((instruction_operands (opcode_of x)).items x) ≡ instr_targets x
   instr_named (instrs.Plain op) e = ap in_items (plain_items op e)
   instr_named (instrs.One op n) e = ap in_items (one_items op n e)
   instr_named (instrs.Two op n m) e = ap in_items (two_items op n m e)
@@ -311,9 +311,9 @@ module _ (v : Abc) where
   instr_named (instrs.ScopeObject n) e = ap in_items (scope_items n)
   instr_named (instrs.Debug kind name reg extra) e = ap in_items (debug_items kind name reg extra)
 
-  code_named : (k : ℕ) (is : List Instr) → AllByRecursion IsShown is → flat_map targets_in (Labels k ∷ code_after (file.instructions s i) k is) ≡ flat_map instr_targets is
+  code_named : (k : ℕ) (is : List Instr) → AllByRecursion HasShownForm is → flat_map targets_of_line (Labels k ∷ code_after (file.instructions s i) k is) ≡ flat_map instr_targets is
   code_named k [] all = refl
-  code_named k (x ∷ is) all = let a = instr_named x all.0 in let b = code_named (k + 1) is all.1 in ap (λ (l : List ℕ). l ++ flat_map targets_in (Labels (k + 1) ∷ code_after (file.instructions s i) (k + 1) is)) a ∙ ap (λ (l : List ℕ). instr_targets x ++ l) b
+  code_named k (x ∷ is) all = let a = instr_named x all.0 in let b = code_named (k + 1) is all.1 in ap (λ (l : List ℕ). l ++ flat_map targets_of_line (Labels (k + 1) ∷ code_after (file.instructions s i) (k + 1) is)) a ∙ ap (λ (l : List ℕ). instr_targets x ++ l) b
 
   body_names_none : (b : BodyHead) → in_items ((body_line s).items b) ≡ []
   unfolding body_line any_number
@@ -323,21 +323,21 @@ module _ (v : Abc) where
   unfolding catch_line target any_number
   handler_named h = refl
 
-  handlers_named : (hs : List Handler) → flat_map targets_in ((flat fs words.Catch (catch_line s) 0).shows hs) ≡ flat_map handler_targets hs
+  handlers_named : (hs : List Handler) → flat_map targets_of_line ((flat_lines fs words.Catch (catch_line s) 0).shows hs) ≡ flat_map handler_targets hs
   handlers_named [] = refl
-  handlers_named (h ∷ hs) = ap (λ (l : List ℕ). l ++ flat_map targets_in ((flat fs words.Catch (catch_line s) 0).shows hs)) (handler_named h) ∙ ap (λ (l : List ℕ). handler_targets h ++ l) (handlers_named hs)
+  handlers_named (h ∷ hs) = ap (λ (l : List ℕ). l ++ flat_map targets_of_line ((flat_lines fs words.Catch (catch_line s) 0).shows hs)) (handler_named h) ∙ ap (λ (l : List ℕ). handler_targets h ++ l) (handlers_named hs)
 
-  slot_at : (n : ℕ) (kind : ValueKind) → in_items ((slot_value s).items (Some (record { kind = kind; value = n }))) ≡ []
-  unfolding slot_value any_number value_kind
+  slot_at : (n : ℕ) (kind : ValueKind) → in_items ((slot_value_operand s).items (Some (record { kind = kind; value = n }))) ≡ []
+  unfolding slot_value_operand any_number value_kind_operand
   slot_at zero kind = refl
   slot_at (suc n) kind = refl
 
-  slot_none : (o : Option OptionValue) → in_items ((slot_value s).items o) ≡ []
-  unfolding slot_value any_number value_kind
+  slot_none : (o : Option OptionValue) → in_items ((slot_value_operand s).items o) ≡ []
+  unfolding slot_value_operand any_number value_kind_operand
   slot_none None = refl
   slot_none (Some o) = slot_at o.value o.kind
 
-  fields_none : (b : TraitBody) → in_items ((trait_fields s (trait_kind_in b)).items b) ≡ []
+  fields_none : (b : TraitBody) → in_items ((trait_operands s (trait_kind_in b)).items b) ≡ []
   unfolding any_number
   fields_none (bodies.Slot id ty value true) = slot_none value
   fields_none (bodies.Slot id ty value false) = slot_none value
@@ -348,39 +348,39 @@ module _ (v : Abc) where
   fields_none (bodies.Function id method) = refl
 
   trait_none : (t : TraitHead) → in_items ((trait_line s).items t) ≡ []
-  unfolding trait_line trait_kind any_number
+  unfolding trait_line trait_kind_operand any_number
   trait_none t = fields_none t.body
 
-  metas_none : (ns : List ℕ) → flat_map targets_in ((flat fs words.TraitMetadata (trait_metadata_line s) 0).shows ns) ≡ []
+  metas_none : (ns : List ℕ) → flat_map targets_of_line ((flat_lines fs words.TraitMetadata (trait_metadata_line s) 0).shows ns) ≡ []
   unfolding trait_metadata_line any_number
   metas_none [] = refl
   metas_none (n ∷ ns) = metas_none ns
 
-  traits_none : (ts : List TraitInfo) → flat_map targets_in ((file.traits s i fs 0).shows ts) ≡ []
+  traits_none : (ts : List TraitInfo) → flat_map targets_of_line ((file.traits s i fs 0).shows ts) ≡ []
   unfolding file.traits
   traits_none [] = refl
   traits_none (t ∷ ts) =
       let first = (trait_line s).items (trait_head t) in
-      let m = (flat fs words.TraitMetadata (trait_metadata_line s) 0).shows t.metadata in
+      let m = (flat_lines fs words.TraitMetadata (trait_metadata_line s) 0).shows t.metadata in
       let rest = (file.traits s i fs 0).shows ts in
-      ap (λ (l : List ℕ). in_items first ++ l) (flat_map-append targets_in m rest)
-      ∙ ap (λ (l : List ℕ). l ++ (flat_map targets_in m ++ flat_map targets_in rest)) (trait_none (trait_head t))
-      ∙ ap (λ (l : List ℕ). l ++ flat_map targets_in rest) (metas_none t.metadata)
+      ap (λ (l : List ℕ). in_items first ++ l) (flat_map-append targets_of_line m rest)
+      ∙ ap (λ (l : List ℕ). l ++ (flat_map targets_of_line m ++ flat_map targets_of_line rest)) (trait_none (trait_head t))
+      ∙ ap (λ (l : List ℕ). l ++ flat_map targets_of_line rest) (metas_none t.metadata)
       ∙ traits_none ts
 
-  body_named : (b : Body) → All IsShown b.code → flat_map targets_in (lines_of_body v b) ≡ body_targets b
+  body_named : (b : Body) → All HasShownForm b.code → flat_map targets_of_line (lines_of_body v b) ≡ body_targets b
   body_named b all =
       let c = Labels 0 ∷ code_after (file.instructions s i) 0 b.code in
-      let h = (flat fs words.Catch (catch_line s) 0).shows b.handlers in
+      let h = (flat_lines fs words.Catch (catch_line s) 0).shows b.handlers in
       let t = (file.traits s i fs 0).shows b.traits in
-      ap (flat_map targets_in) (body_lines_are b)
-      ∙ ap (λ (l : List ℕ). l ++ flat_map targets_in (c ++ (h ++ t))) (body_names_none (body_head b))
-      ∙ flat_map-append targets_in c (h ++ t)
-      ∙ ap (λ (l : List ℕ). flat_map targets_in c ++ l) (flat_map-append targets_in h t ∙ ap (λ (l : List ℕ). flat_map targets_in h ++ l) (traits_none b.traits) ∙ append-nil (flat_map targets_in h) ∙ handlers_named b.handlers)
-      ∙ ap (λ (l : List ℕ). l ++ flat_map handler_targets b.handlers) (code_named 0 b.code (recursion_from_All IsShown b.code all))
+      ap (flat_map targets_of_line) (body_lines_are b)
+      ∙ ap (λ (l : List ℕ). l ++ flat_map targets_of_line (c ++ (h ++ t))) (body_names_none (body_head b))
+      ∙ flat_map-append targets_of_line c (h ++ t)
+      ∙ ap (λ (l : List ℕ). flat_map targets_of_line c ++ l) (flat_map-append targets_of_line h t ∙ ap (λ (l : List ℕ). flat_map targets_of_line h ++ l) (traits_none b.traits) ∙ append-nil (flat_map targets_of_line h) ∙ handlers_named b.handlers)
+      ∙ ap (λ (l : List ℕ). l ++ flat_map handler_targets b.handlers) (code_named 0 b.code (recursion_from_All HasShownForm b.code all))
 
   pub body_is : (b : Body) → IsReadyBody b → body_text v b ≡ whole_body v b
-  body_is b ready = body_shown (flat_map targets_in (lines_of_body v b)) b ∙ ap (λ (named : List ℕ). texts.body_head_text v b ++ (code_text v named 0 b.code ++ (flat_map (handler_text v) b.handlers ++ flat_map (trait_text v) b.traits))) (body_named b (shown b ready))
+  body_is b ready = body_shown (flat_map targets_of_line (lines_of_body v b)) b ∙ ap (λ (named : List ℕ). texts.body_head_text v b ++ (code_text v named 0 b.code ++ (flat_map (handler_text v) b.handlers ++ flat_map (trait_text v) b.traits))) (body_named b (shown b ready))
 
   bodies_are : (bs : List Body) → AllByRecursion IsReadyBody bs → flat_map (body_text v) bs ≡ flat_map (whole_body v) bs
   bodies_are [] all = refl

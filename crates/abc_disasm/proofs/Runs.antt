@@ -11,8 +11,8 @@ use Rattle.abc_base.specs.Escapes.{hex_digit}
 use Rattle.abc_text_lines.specs.Tokens.{Bare, hex_value, is_hex, is_run_byte}
 use Rattle.abc_text_lines.specs.Writing.{IsWritable}
 use Rattle.abc_text_lines.proofs.Bools.{and_true}
-use Rattle.abc_text_lines.specs.Operands.{AreHex, IsSigned, is_digit, is_letter, is_name, is_numeral, number_of}
-use Rattle.abc_text_lines.specs.Listing.{hex_of, label_of}
+use Rattle.abc_text_lines.specs.Operands.{AreHex, IsSigned, is_digit, is_letter, is_name, is_numeral, number_of_digits}
+use Rattle.abc_text_lines.specs.Listing.{listing_hex, label_of}
 
 -- ---- bytes
 
@@ -119,8 +119,8 @@ decimal_numeral (suc n) lt =
     let some = decimal_nonempty (suc n) lt in
     numeral_from (decimal (suc n)) (digits_test (decimal (suc n)) (decimal_is_IsNumeral (suc n) lt).0.1) (grind (arith, nat_tests)) (no_zero (decimal (suc n)) (first_decimal (suc n) (omega arith) lt) (nat_eq (length (decimal (suc n))) 1))
 
-pub decimal_value : (n : ℕ) → n < 2 ^ 64 → number_of (decimal n) ≡ n
-decimal_value n lt = digits_value-decimal (numerals_by_weight (AllDigits 10) tells_digits number_of (record { empty = refl; more = λ c cs k. refl })) n lt
+pub decimal_value : (n : ℕ) → n < 2 ^ 64 → number_of_digits (decimal n) ≡ n
+decimal_value n lt = digits_value-decimal (numerals_by_weight (AllDigits 10) tells_digits number_of_digits (record { empty = refl; more = λ c cs k. refl })) n lt
 
 -- of what a signed number is written
 abbrev pub size_of : ℤ → ℕ
@@ -180,18 +180,18 @@ hex_solid n lt =
       | inr high ↦ let a : nat_lt n 10 ≡ false = grind (arith, nat_tests) in rw a (omega arith, λ e. omega arith)
     ]
 
-pub hex_solids : (bytes : List ℕ) → AllByRecursion (λ b. b < 256) bytes → AllByRecursion IsSolid (hex_of bytes)
+pub hex_solids : (bytes : List ℕ) → AllByRecursion (λ b. b < 256) bytes → AllByRecursion IsSolid (listing_hex bytes)
 hex_solids [] all = tt
 hex_solids (b ∷ bytes) all = let lt = all.0 in (hex_solid (b / 16) (omega arith), (hex_solid (b % 16) (omega arith), hex_solids bytes all.1))
 
-pub hex_read : (bytes : List ℕ) → AllByRecursion (λ b. b < 256) bytes → AreHex (hex_of bytes) bytes
+pub hex_read : (bytes : List ℕ) → AllByRecursion (λ b. b < 256) bytes → AreHex (listing_hex bytes) bytes
 hex_read [] all = refl
 hex_read (b ∷ bytes) all =
     let lt = all.0 in
     let h = hex_is (b / 16) (omega arith) in
     let l = hex_is (b % 16) (omega arith) in
-    (hex_digit (b / 16), hex_digit (b % 16), hex_of bytes, refl, h.0, l.0, omega (arith, h.1, l.1), hex_read bytes all.1)
+    (hex_digit (b / 16), hex_digit (b % 16), listing_hex bytes, refl, h.0, l.0, omega (arith, h.1, l.1), hex_read bytes all.1)
 
-pub hex_word : (bytes : List ℕ) → 0 < length bytes → AllByRecursion (λ b. b < 256) bytes → IsWord (hex_of bytes)
+pub hex_word : (bytes : List ℕ) → 0 < length bytes → AllByRecursion (λ b. b < 256) bytes → IsWord (listing_hex bytes)
 hex_word [] some all = absurd (omega arith)
 hex_word (b ∷ bytes) some all = record { some = omega arith; solid = hex_solids (b ∷ bytes) all }

@@ -7,10 +7,10 @@ use Rattle.abc_text_lines.specs.declared.reason.AsmReason.{AsmReason}
 use Rattle.abc_text_lines.specs.declared.word.Word.{Word}
 use Rattle.abc_text_lines.specs.declared.word.Word.TheVariants as words
 use Rattle.abc_text_lines.specs.Lines.{Shown, Line, Labels}
-use Rattle.abc_text_lines.specs.Operands.{Operand, Operands, any_number, by, checked, entry_upto, index_below, index_upto, is_name, kind, none, number_below, seen, several, u30, ◌&◌}
-use Rattle.abc_text_lines.specs.Rows.{Faults, Head, ItemsFit, OptionFits, Rows, items_shown, nothing, option_shown}
-use Rattle.abc_text_lines.specs.Wordlines.{always, flat, line}
-use Rattle.abc_text_lines.specs.Texts.{Skips, step_of}
+use Rattle.abc_text_lines.specs.Operands.{Operand, Operands, any_number, by, operand_with_test, entry_upto, index_operand_below, index_upto, is_name, kind, none, number_below, map_operands, several, u30_operand, ◌&◌}
+use Rattle.abc_text_lines.specs.Rows.{Faults, Head, ItemsFit, OptionFits, Rows, items_shown, empty_rows, option_shown}
+use Rattle.abc_text_lines.specs.Wordlines.{always, flat_lines, lines_of_word}
+use Rattle.abc_text_lines.specs.Texts.{Skips, label_step}
 use Rattle.abc_disasm.proofs.ReadHeads.{is_line_word, line_head}
 use Rattle.abc_disasm.proofs.Items.{CanBeShown}
 use Rattle.abc_disasm.proofs.Matching.{IsStill}
@@ -30,10 +30,10 @@ module _ (leads : ℕ → Type 0) where
   unfolding any_number
   number_below-shown bound le x fits = let e : nat_lt x bound ≡ true = fits.1 in let lt : x < bound = grind (arith, nat_tests) in omega arith
 
-  pub checked-shown : {A : Type 0} (test : A → Bool) (reason : AsmReason) (p : Operand A) → IsShown p → IsShown (checked test reason p)
+  pub checked-shown : {A : Type 0} (test : A → Bool) (reason : AsmReason) (p : Operand A) → IsShown p → IsShown (operand_with_test test reason p)
   checked-shown test reason p shown x fits = shown x fits.0
 
-  pub u30-shown : IsShown u30
+  pub u30-shown : IsShown u30_operand
   u30-shown = number_below-shown (2 ^ 30) (omega arith)
 
   pub index_upto-shown : (size : ℕ) → IsShown (index_upto size)
@@ -42,7 +42,7 @@ module _ (leads : ℕ → Type 0) where
   pub entry_upto-shown : (size : ℕ) → IsShown (entry_upto size)
   entry_upto-shown size x fits = u30-shown x fits.0
 
-  pub index_below-shown : (size : ℕ) → IsShown (index_below size)
+  pub index_below-shown : (size : ℕ) → IsShown (index_operand_below size)
   index_below-shown size x fits = u30-shown x fits.0
 
   pub kind-shown : {K : Type 0} (name : K → List ℕ) (named : List ℕ → Option K) (default : K) → ((k : K) → is_name (name k) ≡ true) → IsShown (kind name named default)
@@ -63,7 +63,7 @@ module _ (leads : ℕ → Type 0) where
   several-shown p shown [] fits = tt
   several-shown p shown (x ∷ xs) fits = (shown x fits.0, several-shown p shown xs fits.1)
 
-  pub seen-shown : {A B : Type 0} (f : A → B) (g : B → A) (p : Operands A) → AreShown p → AreShown (seen f g p)
+  pub seen-shown : {A B : Type 0} (f : A → B) (g : B → A) (p : Operands A) → AreShown p → AreShown (map_operands f g p)
   seen-shown f g p shown x fits = shown (g x) fits.0
 
 -- ---- lines
@@ -76,7 +76,7 @@ is_quiet words.Label = false
 is_quiet words.Unknown = false
 is_quiet _ = true
 
-quiet_is : (w : Word) → is_quiet w ≡ true → (is_line_word w ≡ true) × (step_of w ≡ Skips)
+quiet_is : (w : Word) → is_quiet w ≡ true → (is_line_word w ≡ true) × (label_step w ≡ Skips)
 quiet_is words.Abc e = (refl, refl)
 quiet_is words.Int e = (refl, refl)
 quiet_is words.UInt e = (refl, refl)
@@ -138,15 +138,15 @@ module _ (leads : ℕ → Type 0) where
   abbrev pub Listed : {A : Type 0} → Rows A → Type 0
   Listed {A} p = (x : A) → p.fits x → AllSit leads (p.shows x)
 
-  pub line-sits : {A B : Type 0} (w : Word) (p : Operands A) (agree : A → B → Type 0) → is_quiet w ≡ true → AreShown leads p → LineSits (line w p agree)
+  pub line-sits : {A B : Type 0} (w : Word) (p : Operands A) (agree : A → B → Type 0) → is_quiet w ≡ true → AreShown leads p → LineSits (lines_of_word w p agree)
   line-sits w p agree quiet shown h y fits = (quiet, shown h fits.0)
 
   pub many-sits : {H B : Type 0} (head : Head H B) (below : Rows B) → LineSits head → Listed below → (xs : List (H × B)) → ItemsFit head below xs → AllSit leads (items_shown head below xs)
   many-sits head below first more [] fit = tt
   many-sits head below first more (x ∷ xs) fit = (first x.0 x.1 fit.0, two_sit (below.shows x.1) (items_shown head below xs) (more x.1 fit.1) (many-sits head below first more xs fit.2))
 
-  pub flat-sits : {A : Type 0} (faults : Faults) (w : Word) (p : Operands A) (n : ℕ) → is_quiet w ≡ true → AreShown leads p → Listed (flat faults w p n)
-  flat-sits {A} faults w p n quiet shown xs fit = many-sits (line w p always) nothing (line-sits w p always quiet shown) (λ y f. tt) (map (λ (x : A). (x, tt)) xs) fit
+  pub flat-sits : {A : Type 0} (faults : Faults) (w : Word) (p : Operands A) (n : ℕ) → is_quiet w ≡ true → AreShown leads p → Listed (flat_lines faults w p n)
+  flat-sits {A} faults w p n quiet shown xs fit = many-sits (lines_of_word w p always) empty_rows (line-sits w p always quiet shown) (λ y f. tt) (map (λ (x : A). (x, tt)) xs) fit
 
   pub optional-sits : {H B : Type 0} (head : Head H B) (below : Rows B) → LineSits head → Listed below → (o : Option (H × B)) → OptionFits head below o → AllSit leads (option_shown head below o)
   optional-sits head below first more None fit = tt

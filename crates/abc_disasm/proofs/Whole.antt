@@ -10,10 +10,10 @@ use Rattle.abc_file_types.specs.Bodies.{bodies, body_list}
 use Rattle.abc_file_types.specs.Classes.{definitions, sizes_of}
 use Rattle.abc_file_types.specs.Files.{file_read, version}
 use Rattle.abc_file_types.specs.Pools.{pools}
-use Rattle.abc_file_types.specs.Sizes.{capped}
+use Rattle.abc_file_types.specs.Sizes.{capped_sizes}
 use Rattle.abc_varint.specs.declared.error.ReadError.{ReadError}
 use Rattle.abc_varint.specs.declared.error.ReadError.TheVariants as errors
-use Rattle.abc_varint.specs.Reads.{Fails}
+use Rattle.abc_varint.specs.Reads.{FailsReading}
 use Rattle.abc_bodies.proofs.Alike.{body_list-capped}
 use Rattle.abc_bodies.proofs.Passing.{beside, filled}
 use Rattle.abc_text_lines.specs.Listing.{body_text, listing}
@@ -25,12 +25,12 @@ use Rattle.abc_disasm.specs.Entries.{entry_text}
 -- ---- reading
 
 -- a file is filled with its bodies over sizes that an index cannot tell apart from its own
-pub filled_over : (v : Abc) (sizes : Sizes) (from : At) → sizes ≡ capped (sizes_of v) → (bodies v).reads from ≡ ((body_list sizes).reads from >>= λ x. Ok (beside v x.0, x.1))
+pub filled_over : (v : Abc) (sizes : Sizes) (from : At) → sizes ≡ capped_sizes (sizes_of v) → (bodies v).reads from ≡ ((body_list sizes).reads from >>= λ x. Ok (beside v x.0, x.1))
 filled_over v sizes from same = filled v (sizes_of v) from refl ∙ rw (same, (body_list-capped (sizes_of v)).same from) refl
 
 -- bodies that fail, after the parts before them were read
-pub bodies_fail : (e : ReadError) (from b c d : At) (n : ℕ × ℕ) (v full : Abc) (sizes : Sizes) → version.reads from ≡ Ok (n, b) → pools.reads b ≡ Ok (v, c) → (definitions v).reads c ≡ Ok (full, d) → sizes ≡ capped (sizes_of full)
-    → Fails e ((body_list sizes).reads d) → Fails e (file_read.reads from)
+pub bodies_fail : (e : ReadError) (from b c d : At) (n : ℕ × ℕ) (v full : Abc) (sizes : Sizes) → version.reads from ≡ Ok (n, b) → pools.reads b ≡ Ok (v, c) → (definitions v).reads c ≡ Ok (full, d) → sizes ≡ capped_sizes (sizes_of full)
+    → FailsReading e ((body_list sizes).reads d) → FailsReading e (file_read.reads from)
 unfolding file_read
 bodies_fail (errors.Refused place reason) from b c d n v full sizes r1 r2 r3 same f = rw (r1, r2, r3, filled_over full sizes d same, f) refl
 bodies_fail errors.ReadFault from b c d n v full sizes r1 r2 r3 same f = tt

@@ -3,5 +3,5 @@ use Rattle.std.specs.Prelude.{◌≡◌, ℕ, ◌<◌, Bool, false, List, length
 use Rattle.abc_text_lines.specs.Wordlines.{among}
 
 -- Each mark says whether its number is named.
-abbrev pub AreMarks : List Bool → List ℕ → Type 0
-AreMarks marks named = (n : ℕ) → n < length marks → get_or marks n false ≡ among n named
+abbrev pub AreTargetMarks : List Bool → List ℕ → Type 0
+AreTargetMarks marks named = (n : ℕ) → n < length marks → get_or marks n false ≡ among n named

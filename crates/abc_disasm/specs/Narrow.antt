@@ -4,8 +4,8 @@ use Rattle.std.specs.Prelude.{ℕ, ◌+◌, nat_eq, not, List, [], ◌∷◌, �
 use Rattle.std.specs.List.{filter, flat_map}
 use Rattle.abc_disasm.specs.Texts.{body_head_text, body_targets, definitions_text, double_text, handler_text, int_text, label_if, namespace_text, set_text, string_text, trait_text, uint_text, version_text}
 use Rattle.abc_text_lines.specs.Kinds.{multiname_words}
-use Rattle.abc_text_lines.specs.Lineforms.{instruction_line, kind_in, multiname_fields, opcode_of}
-use Rattle.abc_text_lines.specs.Listing.{comment_of, name_comment, name_in, token_of}
+use Rattle.abc_text_lines.specs.Lineforms.{instruction_operands, kind_in, multiname_operands, opcode_of}
+use Rattle.abc_text_lines.specs.Listing.{comment_of, name_comment, string_of_name, token_of}
 use Rattle.abc_text_lines.specs.Texts.{or_else}
 use Rattle.abc_file_types.specs.declared.code.Body.{Body}
 use Rattle.abc_file_types.specs.declared.code.Instr.{Instr}
@@ -14,7 +14,7 @@ use Rattle.abc_file_types.specs.declared.names.MultinameKind.{MultinameKind}
 use Rattle.abc_file_types.specs.declared.tables.Abc.{Abc}
 use Rattle.abc_file_types.specs.Classes.{sizes_of}
 use Rattle.abc_file_types.specs.Opcodes as opcodes
-use Rattle.abc_file_types.specs.Opcodes.{named}
+use Rattle.abc_file_types.specs.Opcodes.{names_of_opcodes}
 use Rattle.abc_file_types.specs.Pools.{multiname_code}
 use Rattle.abc_text_lines.specs.declared.word.Word.TheVariants as words
 use Rattle.abc_text_lines.specs.Tokens.{Bare}
@@ -26,7 +26,7 @@ narrow_words = filter (λ row. not (nat_eq (multiname_code row.1) 0x1d)) multina
 
 -- the names of instructions, without that of opcode 53
 abbrev pub narrow_named : List (ℕ × List ℕ)
-narrow_named = filter (λ row. not (nat_eq row.0 0x53)) named
+narrow_named = filter (λ row. not (nat_eq row.0 0x53)) names_of_opcodes
 
 -- the word that a table has for a kind
 abbrev pub kind_word : List (List ℕ × MultinameKind) → MultinameKind → List ℕ
@@ -36,12 +36,12 @@ kind_word (row ∷ rows) k = if nat_eq (multiname_code row.1) (multiname_code k)
 module _ (v : Abc) where
   abbrev pub narrow_name : Multiname → List ℕ
   narrow_name m =
-      written_line (Bare (codes "name") ∷ Bare (kind_word narrow_words (kind_in m)) ∷ map token_of ((multiname_fields (sizes_of v) (kind_in m)).items m))
-      ++ (name_comment v (name_in (Some m)) ++ 0x0a ∷ [])
+      written_line (Bare (codes "name") ∷ Bare (kind_word narrow_words (kind_in m)) ∷ map token_of ((multiname_operands (sizes_of v) (kind_in m)).items m))
+      ++ (name_comment v (string_of_name (Some m)) ++ 0x0a ∷ [])
 
   abbrev pub narrow_instr : Instr → List ℕ
   narrow_instr i =
-      let items = (instruction_line (opcode_of i)).items i in
+      let items = (instruction_operands (opcode_of i)).items i in
       written_line (Bare (or_else (opcodes.name_in narrow_named (opcode_of i)) []) ∷ map token_of items) ++ (comment_of v (words.Instruction (opcode_of i)) items ++ 0x0a ∷ [])
 
   abbrev pub narrow_code : List ℕ → ℕ → List Instr → List ℕ

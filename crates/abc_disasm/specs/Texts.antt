@@ -3,7 +3,7 @@ use Rattle.std.specs.Prelude.{◌≡◌, ◌<◌, ℕ, ℤ, ◌+◌, List, [], �
 use Rattle.std.specs.List.{flat_map}
 use Rattle.std.specs.declared.option.Option.{Option}
 use Rattle.abc_text_lines.specs.declared.word.Word.TheVariants as words
-use Rattle.abc_text_lines.specs.Writing.{spaced}
+use Rattle.abc_text_lines.specs.Writing.{spaced_tokens}
 use Rattle.abc_file_types.specs.declared.classes.ClassInfo.{ClassInfo}
 use Rattle.abc_file_types.specs.declared.classes.Instance.{Instance}
 use Rattle.abc_file_types.specs.declared.classes.Script.{Script}
@@ -27,13 +27,13 @@ use Rattle.abc_file_types.specs.Traits.{trait_kind_in}
 use Rattle.abc_text_lines.specs.Lines.{Item}
 use Rattle.abc_text_lines.specs.Wordlines.{among}
 use Rattle.abc_text_lines.specs.Answers.{instance_head, pairs}
-use Rattle.abc_text_lines.specs.Lineforms.{body_line, catch_line, double_line, entry_line, int_line, name_line, namespace_line, set_line, string_line, uint_line, instance_line, instruction_line, kind_in, method_line, multiname_fields, opcode_of, option_line, slot_value, trait_fields, trait_line}
-use Rattle.abc_text_writer.specs.Numbers.{number_line, number_lines}
+use Rattle.abc_text_lines.specs.Lineforms.{body_line, catch_line, double_line, entry_line, int_line, name_line, namespace_line, set_line, string_line, uint_line, instance_line, instruction_operands, kind_in, method_line, multiname_operands, opcode_of, option_line, slot_value_operand, trait_operands, trait_line}
+use Rattle.abc_text_writer.specs.Numbers.{number_line_bytes, number_lines}
 use Rattle.abc_text_lines.specs.Listing.{label_bytes, label_of, line_bytes, token_of}
 
 -- operands behind a line's first word
-abbrev pub operands : List Item → List ℕ
-operands items = spaced (map token_of items)
+abbrev pub operand_bytes : List Item → List ℕ
+operand_bytes items = spaced_tokens (map token_of items)
 
 -- labels, each behind a space
 abbrev pub labels : List ℕ → List ℕ
@@ -44,13 +44,13 @@ abbrev pub label_if : List ℕ → ℕ → List ℕ
 label_if named n = if among n named then label_bytes n else []
 
 -- The form of an instruction is that of its opcode, and a switch has a case.
-abbrev pub IsShown : Instr → Type 0
-IsShown (instrs.Plain op) = form_at op ≡ Some forms.Plain
-IsShown (instrs.One op n) = form_at op ≡ Some forms.One
-IsShown (instrs.Two op n m) = form_at op ≡ Some forms.Two
-IsShown (instrs.Branch op t) = form_at op ≡ Some forms.Branch
-IsShown (instrs.Switch t ts) = 0 < length ts
-IsShown _ = Unit {0}
+abbrev pub HasShownForm : Instr → Type 0
+HasShownForm (instrs.Plain op) = form_at op ≡ Some forms.Plain
+HasShownForm (instrs.One op n) = form_at op ≡ Some forms.One
+HasShownForm (instrs.Two op n m) = form_at op ≡ Some forms.Two
+HasShownForm (instrs.Branch op t) = form_at op ≡ Some forms.Branch
+HasShownForm (instrs.Switch t ts) = 0 < length ts
+HasShownForm _ = Unit {0}
 
 -- the numbers of instructions that an instruction names
 abbrev pub instr_targets : Instr → List ℕ
@@ -98,7 +98,7 @@ module _ (v : Abc) where
 
   -- the indices of a multiname
   abbrev pub name_fields : Multiname → List ℕ
-  name_fields m = operands ((multiname_fields (sizes_of v) (kind_in m)).items m)
+  name_fields m = operand_bytes ((multiname_operands (sizes_of v) (kind_in m)).items m)
 
   abbrev pub option_text : OptionValue → List ℕ
   option_text o = line_bytes v words.Optional ((option_line (sizes_of v)).items o)
@@ -112,19 +112,19 @@ module _ (v : Abc) where
   entry_text e = line_bytes v words.Entry ((entry_line (sizes_of v)).items e)
 
   abbrev pub metadata_text : Metadata → List ℕ
-  metadata_text m = number_line (codes "metadata") m.name ++ flat_map entry_text (pairs m.items)
+  metadata_text m = number_line_bytes (codes "metadata") m.name ++ flat_map entry_text (pairs m.items)
 
   abbrev pub slot_text : Option OptionValue → List ℕ
-  slot_text o = operands ((slot_value (sizes_of v)).items o)
+  slot_text o = operand_bytes ((slot_value_operand (sizes_of v)).items o)
 
   abbrev pub fields_text : TraitBody → List ℕ
-  fields_text b = operands ((trait_fields (sizes_of v) (trait_kind_in b)).items b)
+  fields_text b = operand_bytes ((trait_operands (sizes_of v) (trait_kind_in b)).items b)
 
   abbrev pub trait_text : TraitInfo → List ℕ
   trait_text t = line_bytes v words.Trait ((trait_line (sizes_of v)).items (record { attrs = t.attrs; name = t.name; body = t.body })) ++ number_lines (codes "tmeta") t.metadata
 
   abbrev pub protected_text : Option ℕ → List ℕ
-  protected_text (Some n) = number_line (codes "protected") n
+  protected_text (Some n) = number_line_bytes (codes "protected") n
   protected_text None = []
 
   abbrev pub instance_head_text : Instance → List ℕ
@@ -133,17 +133,17 @@ module _ (v : Abc) where
   abbrev pub instance_text : Instance → List ℕ
   instance_text i =
       instance_head_text i
-      ++ (protected_text i.protected_ns ++ (number_lines (codes "implements") i.interfaces ++ (number_line (codes "iinit") i.iinit ++ flat_map trait_text i.traits)))
+      ++ (protected_text i.protected_ns ++ (number_lines (codes "implements") i.interfaces ++ (number_line_bytes (codes "iinit") i.iinit ++ flat_map trait_text i.traits)))
 
   abbrev pub class_text : ClassInfo → List ℕ
-  class_text c = number_line (codes "class") c.cinit ++ flat_map trait_text c.traits
+  class_text c = number_line_bytes (codes "class") c.cinit ++ flat_map trait_text c.traits
 
   abbrev pub script_text : Script → List ℕ
-  script_text s = number_line (codes "script") s.init ++ flat_map trait_text s.traits
+  script_text s = number_line_bytes (codes "script") s.init ++ flat_map trait_text s.traits
 
   -- the line of an instruction
   abbrev pub instr_text : Instr → List ℕ
-  instr_text i = line_bytes v (words.Instruction (opcode_of i)) ((instruction_line (opcode_of i)).items i)
+  instr_text i = line_bytes v (words.Instruction (opcode_of i)) ((instruction_operands (opcode_of i)).items i)
 
   -- instructions, of which the first has the number n, with a label before each that is named and at the end
   abbrev pub code_text : List ℕ → ℕ → List Instr → List ℕ

@@ -2,11 +2,11 @@
 ghost use Rattle.std.specs.Prelude.{◌≡◌, ◌≤◌, ◌+◌, ◌^◌, [], Err, IfOk, IfErr, OnOk, None};
 ghost use Rattle.abc_base.specs.Faults.{Rose};
 ghost use Rattle.abc_base.specs.Taking.{TakesAtMost};
-ghost use Rattle.abc_file.specs.Reading.{IsFaultOf, IsNew, IsUsedUp, IsWrittenOf};
+ghost use Rattle.abc_file.specs.Reading.{IsErrorOf, IsNew, IsUsedUp, IsWrittenOf};
 ghost use Rattle.abc_text_lines.specs.Listing.{listing};
 ghost use Rattle.abc_file_types.specs.Files.{file_read};
-ghost use Rattle.abc_varint.specs.Passes.{Passes, PassesPart, nothing};
-ghost use Rattle.abc_varint.specs.Reads.{IsInput, Reads, ReadsPart, known};
+ghost use Rattle.abc_varint.specs.Passes.{Passes, PassesPart, nothing_told};
+ghost use Rattle.abc_varint.specs.Reads.{IsInput, Reads, ReadsPart, known_input};
 ghost use Rattle.abc_varint.specs.declared.error.ReadError.{ReadError};
 
 use crate::listed_bodies::list_bodies;
@@ -29,7 +29,8 @@ fn list_file<S: Source>(
     source: &mut S,
     out: &mut Vec<u8>,
 ) -> Result<(), ReadError>
-    ensures { PassesPart S.left S.faults file_read (λ x. listing x.0) nothing w.old source.old w.new source.new out.old.items out.new.items result }
+    ensures { PassesPart S.left S.faults file_read (λ x. listing x.0) nothing_told w.old source.old w.new
+        source.new out.old.items out.new.items result }
 {
     read_version(w, source)?;
     let mut abc = read_pools(alloc, w, source)?;
@@ -54,8 +55,8 @@ fn list_to_end<S: Source>(
     requires window { IsNew w.old }
     requires bytes { out.old.items ≡ [] }
     ensures text { OnOk result (IsWrittenOf listing (S.left source.old) out.new.items) }
-    ensures fault { IfErr result (λ e. IsFaultOf (S.left source.old) e) }
-    ensures input { IsInput w.old (S.left source.old) (known w.new (S.left source.new)) }
+    ensures fault { IfErr result (λ e. IsErrorOf (S.left source.old) e) }
+    ensures input { IsInput w.old (S.left source.old) (known_input w.new (S.left source.new)) }
     ensures end { OnOk result (IsUsedUp (S.left source.old) (S.left source.new)) }
     ensures later { S.faults source.old ≤ S.faults source.new }
     ensures cause { result ≡ Err ReadError.ReadFault → Rose (S.faults source.old) (S.faults source.new) }
@@ -71,7 +72,7 @@ fn list_to_end<S: Source>(
 /// whatever is answered. The memory of the tables stays taken.
 pub fn listing_of<S: Source>(alloc: Global, source: &mut S) -> Result<Vec<u8>, ReadError>
     ensures text { IfOk result (λ v. IsWrittenOf listing (S.left source.old) v.items) }
-    ensures fault { IfErr result (λ e. IsFaultOf (S.left source.old) e) }
+    ensures fault { IfErr result (λ e. IsErrorOf (S.left source.old) e) }
     ensures taken { TakesAtMost (S.left source.old) (S.left source.new) (2 ^ 24 + 1) }
     ensures end { OnOk result (IsUsedUp (S.left source.old) (S.left source.new)) }
     ensures later { S.faults source.old ≤ S.faults source.new }

@@ -1,6 +1,6 @@
 //! The fronts of the lines of instructions: a name, and the line's end, or a space where more follows.
 ghost use Rattle.std.specs.Prelude.{◌≡◌, ◌≤◌, take};
-ghost use Rattle.abc_disasm.specs.Heads.{head};
+ghost use Rattle.abc_disasm.specs.Heads.{line_head};
 ghost use Rattle.abc_disasm.specs.declared.heads.TheConstants.{HEADS as all_heads};
 ghost use Rattle.abc_varint.specs.Puts.{PutsWhole};
 
@@ -274,7 +274,7 @@ pub const HEADS: [Head; 256] = [
 #[inline(always)]
 fn row_at<'a>(heads: &'a [Head; 256], op: u8) -> &'a Head
     requires { heads.now ≡ all_heads }
-    ensures bytes { take (result.now).1 (result.now).0 ≡ head op }
+    ensures bytes { take (result.now).1 (result.now).0 ≡ line_head op }
     ensures count { (result.now).1 ≤ 16 }
 {
     &heads[op as usize]
@@ -283,7 +283,7 @@ fn row_at<'a>(heads: &'a [Head; 256], op: u8) -> &'a Head
 /// The front of the line of an instruction.
 #[inline(always)]
 pub fn put_head(op: u8, out: &mut Vec<u8>) -> Result<(), NoMemory>
-    ensures { PutsWhole out.old.items out.new.items result (head op) }
+    ensures { PutsWhole out.old.items out.new.items result (line_head op) }
 {
     let row = row_at(&HEADS, op);
     put_first(&row.0, row.1 as usize, out)

@@ -1,6 +1,6 @@
 //! The lines of instructions.
 ghost use Rattle.std.specs.Prelude.{◌≡◌, ◌∷◌, ◌++◌, ◌<◌, [], ℕ, Some, IsSome, length};
-ghost use Rattle.abc_disasm.specs.Texts.{IsShown, instr_text, labels};
+ghost use Rattle.abc_disasm.specs.Texts.{HasShownForm, instr_text, labels};
 ghost use Rattle.abc_text_lines.specs.Listing.{label_of};
 ghost use Rattle.abc_file_types.specs.Opcodes.{form_at, pool_of};
 ghost use Rattle.abc_file_types.specs.declared.code.Instr.TheVariants as instrs;
@@ -94,7 +94,8 @@ fn put_target_line(
     cases: &[u32],
     out: &mut Vec<u8>,
 ) -> Result<(), NoMemory>
-    ensures { Puts out.old.items out.new.items result (word.now ++ ((0x20 ∷ label_of default) ++ (labels cases.now ++ 0x0a ∷ []))) }
+    ensures { Puts out.old.items out.new.items result
+        (word.now ++ ((0x20 ∷ label_of default) ++ (labels cases.now ++ 0x0a ∷ []))) }
 {
     put(word, out)?;
     put_target(default, out)?;
@@ -112,7 +113,8 @@ fn put_switch(
     out: &mut Vec<u8>,
 ) -> Result<(), NoMemory>
     requires { 0 < length cases.now }
-    ensures { Puts out.old.items out.new.items result (instr_text _abc.now (instrs.Switch default cases.now)) }
+    ensures { Puts out.old.items out.new.items result
+        (instr_text _abc.now (instrs.Switch default cases.now)) }
 {
     put_target_line(b"lookupswitch", default, cases, out)
 }
@@ -157,7 +159,8 @@ fn put_debug(
     _abc: &Shown<'_>,
     out: &mut Vec<u8>,
 ) -> Result<(), NoMemory>
-    ensures { Puts out.old.items out.new.items result (instr_text _abc.now (instrs.Debug kind name reg extra)) }
+    ensures { Puts out.old.items out.new.items result
+        (instr_text _abc.now (instrs.Debug kind name reg extra)) }
 {
     put(b"debug", out)?;
     put_number(kind as u32, out)?;
@@ -170,7 +173,7 @@ fn put_debug(
 
 /// The line of an instruction.
 pub fn put_instr(instr: &Instr, abc: &Shown<'_>, out: &mut Vec<u8>) -> Result<(), NoMemory>
-    requires { IsShown instr.now }
+    requires { HasShownForm instr.now }
     ensures { Puts out.old.items out.new.items result (instr_text abc.now instr.now) }
 {
     match instr {

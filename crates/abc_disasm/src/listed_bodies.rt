@@ -5,7 +5,7 @@ ghost use Rattle.abc_bodies.specs.Reading.{free_body};
 ghost use Rattle.abc_file_types.specs.Lists.{chain};
 ghost use Rattle.abc_disasm.specs.Entries.{entry_text};
 ghost use Rattle.abc_file_types.specs.Bodies.{body, body_list, methods_of};
-ghost use Rattle.abc_varint.specs.Passes.{Passes, PassesPart, nothing};
+ghost use Rattle.abc_varint.specs.Passes.{Passes, PassesPart, nothing_told};
 ghost use Rattle.abc_varint.specs.Reads.{Reads, ReadsPart};
 
 use crate::put_bodies::put_body;
@@ -36,7 +36,8 @@ fn list_body<S: Source>(
     abc: &Shown<'_>,
     out: &mut Vec<u8>,
 ) -> Result<u32, ReadError>
-    ensures value { PassesPart S.left S.faults (free_body sizes.now flags.now) (entry_text abc.now) (λ x. x.0.method) w.old source.old w.new source.new out.old.items out.new.items result }
+    ensures value { PassesPart S.left S.faults (free_body sizes.now flags.now) (entry_text abc.now)
+        (λ x. x.0.method) w.old source.old w.new source.new out.old.items out.new.items result }
     ensures free { IfOk result (λ m. slice_get flags.now m ≡ Some false) }
 {
     let body = read_body(alloc, w, source, sizes, flags, &mut room.reading)?;
@@ -55,7 +56,9 @@ fn list_each_body<S: Source>(
     out: &mut Vec<u8>,
 ) -> Result<u32, ReadError>
     requires fresh { w.old.kept ≡ None }
-    ensures { PassesPart S.left S.faults (chain count (λ before. body sizes.now (methods_of before)) []) (flat_map (entry_text abc.now)) length w.old source.old w.new source.new out.old.items out.new.items result }
+    ensures { PassesPart S.left S.faults (chain count (λ before. body sizes.now (methods_of before)) [])
+        (flat_map (entry_text abc.now)) length w.old source.old w.new source.new out.old.items out.new.items
+        result }
 {
     let mut has_body = flags_down(alloc, sizes.methods)?;
     let mut room = Room {
@@ -80,7 +83,8 @@ pub fn list_bodies<S: Source>(
     abc: &Shown<'_>,
     out: &mut Vec<u8>,
 ) -> Result<(), ReadError>
-    ensures { PassesPart S.left S.faults (body_list sizes.now) (flat_map (entry_text abc.now)) nothing w.old source.old w.new source.new out.old.items out.new.items result }
+    ensures { PassesPart S.left S.faults (body_list sizes.now) (flat_map (entry_text abc.now)) nothing_told
+        w.old source.old w.new source.new out.old.items out.new.items result }
 {
     let count = read_u30(w, source)?;
     list_each_body(alloc, w, source, sizes, count, abc, out)?;

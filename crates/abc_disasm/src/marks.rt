@@ -2,7 +2,7 @@
 ghost use Rattle.std.specs.Prelude.{◌≡◌, ◌+◌, ◌++◌, ◌∷◌, ◌<◌, ◌^◌, [], ℕ, List, OnOk, length, vec_len};
 ghost use Rattle.std.specs.List.{flat_map};
 ghost use Rattle.abc_disasm.specs.Texts.{body_targets, handler_targets, instr_targets};
-ghost use Rattle.abc_disasm.specs.Marks.{AreMarks};
+ghost use Rattle.abc_disasm.specs.Marks.{AreTargetMarks};
 
 use abc_base::NoMemory;
 use abc_file_types::{Body, Handler, Instr};
@@ -10,7 +10,8 @@ use abc_file_types::{Body, Handler, Instr};
 /// Marks a number.
 fn mark(marks: &mut Vec<bool>, n: u32)
     ensures len { vec_len marks.new ≡ vec_len marks.old }
-    ensures marked { (named : List ℕ) → AreMarks marks.old.items named → AreMarks marks.new.items (named ++ n ∷ []) }
+    ensures marked { (named : List ℕ) → AreTargetMarks marks.old.items named
+        → AreTargetMarks marks.new.items (named ++ n ∷ []) }
 {
     let at = n as usize;
     if at < marks.len() {
@@ -20,7 +21,8 @@ fn mark(marks: &mut Vec<bool>, n: u32)
 
 fn mark_all(marks: &mut Vec<bool>, targets: &[u32])
     ensures len { vec_len marks.new ≡ vec_len marks.old }
-    ensures marked { (named : List ℕ) → AreMarks marks.old.items named → AreMarks marks.new.items (named ++ targets.now) }
+    ensures marked { (named : List ℕ) → AreTargetMarks marks.old.items named
+        → AreTargetMarks marks.new.items (named ++ targets.now) }
 {
     for target in targets {
         mark(marks, *target);
@@ -30,7 +32,8 @@ fn mark_all(marks: &mut Vec<bool>, targets: &[u32])
 /// Marks what an instruction names.
 fn mark_instr(marks: &mut Vec<bool>, instr: &Instr)
     ensures len { vec_len marks.new ≡ vec_len marks.old }
-    ensures marked { (named : List ℕ) → AreMarks marks.old.items named → AreMarks marks.new.items (named ++ instr_targets instr.now) }
+    ensures marked { (named : List ℕ) → AreTargetMarks marks.old.items named
+        → AreTargetMarks marks.new.items (named ++ instr_targets instr.now) }
 {
     match instr {
         Instr::Branch(_, target) => mark(marks, *target),
@@ -45,14 +48,16 @@ fn mark_instr(marks: &mut Vec<bool>, instr: &Instr)
 /// Marks what a handler names.
 fn mark_handler(marks: &mut Vec<bool>, handler: &Handler)
     ensures len { vec_len marks.new ≡ vec_len marks.old }
-    ensures marked { (named : List ℕ) → AreMarks marks.old.items named → AreMarks marks.new.items (named ++ handler_targets handler.now) }
+    ensures marked { (named : List ℕ) → AreTargetMarks marks.old.items named
+        → AreTargetMarks marks.new.items (named ++ handler_targets handler.now) }
 {
     mark_all(marks, &[handler.from, handler.to, handler.target]);
 }
 
 fn mark_code(marks: &mut Vec<bool>, code: &[Instr])
     ensures len { vec_len marks.new ≡ vec_len marks.old }
-    ensures marked { (named : List ℕ) → AreMarks marks.old.items named → AreMarks marks.new.items (named ++ flat_map instr_targets code.now) }
+    ensures marked { (named : List ℕ) → AreTargetMarks marks.old.items named
+        → AreTargetMarks marks.new.items (named ++ flat_map instr_targets code.now) }
 {
     for instr in code {
         mark_instr(marks, instr);
@@ -61,7 +66,8 @@ fn mark_code(marks: &mut Vec<bool>, code: &[Instr])
 
 fn mark_handlers(marks: &mut Vec<bool>, handlers: &[Handler])
     ensures len { vec_len marks.new ≡ vec_len marks.old }
-    ensures marked { (named : List ℕ) → AreMarks marks.old.items named → AreMarks marks.new.items (named ++ flat_map handler_targets handlers.now) }
+    ensures marked { (named : List ℕ) → AreTargetMarks marks.old.items named
+        → AreTargetMarks marks.new.items (named ++ flat_map handler_targets handlers.now) }
 {
     for handler in handlers {
         mark_handler(marks, handler);
@@ -73,7 +79,7 @@ fn mark_handlers(marks: &mut Vec<bool>, handlers: &[Handler])
 pub fn mark_body(marks: &mut Vec<bool>, body: &Body) -> Result<(), NoMemory>
     requires { length (body.now).code < 2 ^ 23 }
     ensures len { OnOk result (vec_len marks.new ≡ length (body.now).code + 1) }
-    ensures marked { OnOk result (AreMarks marks.new.items (body_targets body.now)) }
+    ensures marked { OnOk result (AreTargetMarks marks.new.items (body_targets body.now)) }
 {
     marks.clear();
     marks.resize(body.code.len() + 1, false)?;

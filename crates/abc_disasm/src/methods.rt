@@ -39,7 +39,7 @@ pub fn value_name(kind: ValueKind) -> &'static [u8]
 impl Listed for OptionValue {
     ghost text = { option_text };
 
-    #[tactic(auto, unfolding(abc_text_lines::specs::Lineforms::option_line, abc_text_lines::specs::Kinds::value_kind, abc_text_lines::specs::Operands::any_number), using(abc_varint::proofs::Putting::stays, std::proofs::Common::append_assoc))]
+    #[tactic(auto, unfolding(abc_text_lines::specs::Lineforms::option_line, abc_text_lines::specs::Kinds::value_kind_operand, abc_text_lines::specs::Operands::any_number), using(abc_varint::proofs::Putting::stays, std::proofs::Common::append_assoc))]
     fn put(&self, _abc: &Shown<'_>, out: &mut Vec<u8>) -> Result<(), NoMemory> {
         put(b"option", out)?;
         put_word(value_name(self.kind), out)?;

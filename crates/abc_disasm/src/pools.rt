@@ -64,7 +64,7 @@ impl Listed for Eight {
 impl Listed for Bytes {
     ghost text = { string_text };
 
-    #[tactic(auto, unfolding(abc_text_lines::specs::Lineforms::string_line, abc_text_lines::specs::Operands::text), using(abc_varint::proofs::Putting::stays, std::proofs::Common::append_assoc))]
+    #[tactic(auto, unfolding(abc_text_lines::specs::Lineforms::string_line, abc_text_lines::specs::Operands::text_operand), using(abc_varint::proofs::Putting::stays, std::proofs::Common::append_assoc))]
     fn put(&self, _abc: &Shown<'_>, out: &mut Vec<u8>) -> Result<(), NoMemory> {
         put(b"string", out)?;
         put_quoted(self.as_slice(), out)?;
@@ -101,7 +101,8 @@ impl Listed for Table<u32> {
 /// The front of a multiname's line: it says of which kind it is.
 #[inline(always)]
 fn put_name_head(multiname: &Multiname, out: &mut Vec<u8>) -> Result<(), NoMemory>
-    ensures { PutsWhole out.old.items out.new.items result (codes "name" ++ (0x20 ∷ multiname_word (kind_in multiname.now))) }
+    ensures { PutsWhole out.old.items out.new.items result
+        (codes "name" ++ (0x20 ∷ multiname_word (kind_in multiname.now))) }
 {
     match multiname {
         Multiname::QName { attr: false, .. } => put(b"name QName", out),
@@ -144,7 +145,7 @@ fn put_name_fields(
 impl Listed for Multiname {
     ghost text = { name_text };
 
-    #[tactic(auto, unfolding(abc_text_lines::specs::Lineforms::name_line, abc_text_lines::specs::Kinds::multiname_kind), using(abc_varint::proofs::Putting::stays, std::proofs::Common::append_assoc, crate::proofs::Shown::name_line_is))]
+    #[tactic(auto, unfolding(abc_text_lines::specs::Lineforms::name_line, abc_text_lines::specs::Kinds::multiname_kind_operand), using(abc_varint::proofs::Putting::stays, std::proofs::Common::append_assoc, crate::proofs::Shown::name_line_is))]
     fn put(&self, abc: &Shown<'_>, out: &mut Vec<u8>) -> Result<(), NoMemory> {
         put_name_head(self, out)?;
         put_name_fields(self, abc, out)?;

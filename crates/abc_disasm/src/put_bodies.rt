@@ -1,9 +1,9 @@
 //! The lines of bodies.
 ghost use Rattle.std.specs.Prelude.{◌≡◌, ◌+◌, ◌<◌, ◌^◌, All, length};
 ghost use Rattle.std.specs.List.{flat_map};
-ghost use Rattle.abc_disasm.specs.Marks.{AreMarks};
+ghost use Rattle.abc_disasm.specs.Marks.{AreTargetMarks};
 ghost use Rattle.abc_text_lines.specs.Listing.{label_bytes};
-ghost use Rattle.abc_disasm.specs.Texts.{IsShown, body_head_text, body_targets, code_text, handler_text, label_if, whole_body};
+ghost use Rattle.abc_disasm.specs.Texts.{HasShownForm, body_head_text, body_targets, code_text, handler_text, label_if, whole_body};
 ghost use Rattle.abc_file_types.specs.Bodies.{IsReadyBody};
 ghost use Rattle.abc_varint.specs.Puts.{Puts};
 
@@ -60,7 +60,7 @@ fn put_label_line(n: u32, out: &mut Vec<u8>) -> Result<(), NoMemory>
 /// The line of an instruction's label, if the body names it.
 #[inline(always)]
 fn put_label_if(body: &Body, marks: &[bool], n: usize, out: &mut Vec<u8>) -> Result<(), NoMemory>
-    requires marked { AreMarks marks.now (body_targets (body.now)) }
+    requires marked { AreTargetMarks marks.now (body_targets (body.now)) }
     requires within { n < length marks.now }
     requires short { n < 2 ^ 32 }
     ensures { Puts out.old.items out.new.items result (label_if (body_targets (body.now)) n) }
@@ -74,11 +74,12 @@ fn put_label_if(body: &Body, marks: &[bool], n: usize, out: &mut Vec<u8>) -> Res
 /// The instructions, with the labels that the body names.
 #[tactic(auto, using(crate::proofs::Fronts::front_through, abc_varint::proofs::Putting::stays, std::proofs::Common::append_assoc))]
 fn put_code(body: &Body, marks: &[bool], abc: &Shown<'_>, out: &mut Vec<u8>) -> Result<(), NoMemory>
-    requires marked { AreMarks marks.now (body_targets (body.now)) }
+    requires marked { AreTargetMarks marks.now (body_targets (body.now)) }
     requires len { length marks.now ≡ length (body.now).code + 1 }
-    requires shown { All IsShown (body.now).code }
+    requires shown { All HasShownForm (body.now).code }
     requires short { length (body.now).code < 2 ^ 23 }
-    ensures { Puts out.old.items out.new.items result (code_text abc.now (body_targets (body.now)) 0 (body.now).code) }
+    ensures { Puts out.old.items out.new.items result
+        (code_text abc.now (body_targets (body.now)) 0 (body.now).code) }
 {
     for i in 0..body.code.len() {
         put_label_if(body, marks, i, out)?;

@@ -12,8 +12,10 @@ ghost use Rattle.abc_file_types.specs.Files.{IsFile};
 /// other; and it has no fault.
 pub fn listing_is_read_back()
     ensures text { (v : Abc) → (b : List ℕ) → All (λ x. x < 256) b → IsFile v b → IsAssemblyOf (listing v) v }
-    ensures no_other { (v w : Abc) → (b : List ℕ) → All (λ x. x < 256) b → IsFile v b → IsAssemblyOf (listing v) w → w ≡ v }
-    ensures no_fault { (v : Abc) → (b : List ℕ) → (f : Fault) → All (λ x. x < 256) b → IsFile v b → IsAssemblyFault (listing v) f → ⊥ }
+    ensures no_other { (v w : Abc) → (b : List ℕ) → All (λ x. x < 256) b → IsFile v b
+        → IsAssemblyOf (listing v) w → w ≡ v }
+    ensures no_fault { (v : Abc) → (b : List ℕ) → (f : Fault) → All (λ x. x < 256) b → IsFile v b
+        → IsAssemblyFault (listing v) f → ⊥ }
 {}
 
 /// A file without multinames of kind 1D and without opcode 53, whose bodies can be written, has the text that it has by

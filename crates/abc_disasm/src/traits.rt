@@ -16,7 +16,8 @@ use abc_text_writer::{
 /// The front of a trait's line: it says of which kind it is.
 #[inline(always)]
 fn put_trait_head(body: &TraitBody, out: &mut Vec<u8>) -> Result<(), NoMemory>
-    ensures { PutsWhole out.old.items out.new.items result (codes "trait" ++ (0x20 ∷ trait_word (trait_kind_in body.now))) }
+    ensures { PutsWhole out.old.items out.new.items result
+        (codes "trait" ++ (0x20 ∷ trait_word (trait_kind_in body.now))) }
 {
     match body {
         TraitBody::Slot {
@@ -74,7 +75,7 @@ fn put_fields(body: &TraitBody, abc: &Shown<'_>, out: &mut Vec<u8>) -> Result<()
 impl Listed for TraitInfo {
     ghost text = { trait_text };
 
-    #[tactic(auto, unfolding(abc_text_lines::specs::Lineforms::trait_line, abc_text_lines::specs::Kinds::trait_kind, abc_text_lines::specs::Operands::any_number), using(abc_varint::proofs::Putting::stays, std::proofs::Common::append_assoc))]
+    #[tactic(auto, unfolding(abc_text_lines::specs::Lineforms::trait_line, abc_text_lines::specs::Kinds::trait_kind_operand, abc_text_lines::specs::Operands::any_number), using(abc_varint::proofs::Putting::stays, std::proofs::Common::append_assoc))]
     fn put(&self, abc: &Shown<'_>, out: &mut Vec<u8>) -> Result<(), NoMemory> {
         put_trait_head(&self.body, out)?;
         put_number(self.attrs as u32, out)?;

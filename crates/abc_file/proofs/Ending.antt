@@ -4,12 +4,12 @@ use Rattle.std.specs.Prelude.{◌≢◌, IfOk}
 use Rattle.std.specs.declared.option.Option.{Option}
 use Rattle.std.specs.declared.result.Result.{Result}
 use Rattle.abc_file_types.specs.declared.reason.Reason.TheVariants as reasons
-use Rattle.abc_file_types.specs.Part.{At, at, Begins, image, refusal}
+use Rattle.abc_file_types.specs.Part.{At, at_of, Begins, image, refusal}
 use Rattle.abc_base.specs.Taking.{TakesAtMost}
 use Rattle.abc_varint.specs.declared.error.ReadError.{ReadError}
 use Rattle.abc_varint.specs.declared.error.ReadError.TheVariants as errors
 use Rattle.abc_varint.specs.View.{View}
-use Rattle.abc_varint.specs.Reads.{Fails, Input, IsInput, Reads, known, stand, told}
+use Rattle.abc_varint.specs.Reads.{FailsReading, Input, IsInput, Reads, known_input, stand, told_bytes}
 use Rattle.abc_varint.proofs.Inputs.{known_is}
 use Rattle.abc_file_types.specs.declared.tables.Abc.{Abc}
 use Rattle.abc_file_types.specs.Files.{file_read, Fits, IsBadFile, IsFile, IsFileRead}
@@ -17,7 +17,7 @@ use Rattle.abc_file_types.proofs.Whole.{file_read-exact, read_bad, read_begins, 
 use Rattle.abc_bodies.specs.Places.{ArePlaces, KeepPlaces}
 use Rattle.abc_bodies.specs.Reading.{keeping}
 use Rattle.abc_bodies.proofs.Moving.{Mapped, mapped, unmapped}
-use Rattle.abc_file.specs.Reading.{AnswersFile, AnswersKept, IsEnd, IsNew, IsTrailing, IsUsedUp, OfInput, Refuses}
+use Rattle.abc_file.specs.Reading.{AnswersFile, AnswersKept, IsInputEnd, IsNew, IsTrailing, IsUsedUp, OfInput, Refuses}
 
 -- ---- the input of a new window
 
@@ -30,53 +30,53 @@ pub of_any : (P : List ℕ → Type 0) (s : Option (List ℕ)) → ((input : Lis
 of_any P None p = ([], p [])
 of_any P (Some b) p = p b
 
-pub begins : (w : View) (input : Input) → IsNew w → stand w input ≡ at 0 input.bytes
+pub begins : (w : View) (input : Input) → IsNew w → stand w input ≡ at_of 0 input.bytes
 begins w input n = rw (n.place, n.end) refl
 
 -- ---- what was read of it
 
-refused : (b : List ℕ) (e : ReadError) → Fails e (file_read.reads (at 0 b)) → Refuses e b
-refused b (errors.Refused place reason) f = inl (read_bad (at 0 b) (refusal place reason) (file_read-exact.refused (at 0 b) (refusal place reason) (omega arith) f))
+refused : (b : List ℕ) (e : ReadError) → FailsReading e (file_read.reads (at_of 0 b)) → Refuses e b
+refused b (errors.Refused place reason) f = inl (read_bad (at_of 0 b) (refusal place reason) (file_read-exact.refused (at_of 0 b) (refusal place reason) (omega arith) f))
 refused b errors.ReadFault f = tt
 refused b errors.NoMemory f = tt
 
 -- some input is refused so
-pub part_refused : (w : View) (s : Option (List ℕ)) (input : Input) (e : ReadError) → IsNew w → IsInput w s input × Fails e (file_read.reads (stand w input)) → OfInput s (Refuses e)
-part_refused w s input e n f = of_input (Refuses e) w s input n f.0 (refused input.bytes e (subst (λ (a : At). Fails e (file_read.reads a)) (begins w input n) f.1))
+pub part_refused : (w : View) (s : Option (List ℕ)) (input : Input) (e : ReadError) → IsNew w → IsInput w s input × FailsReading e (file_read.reads (stand w input)) → OfInput s (Refuses e)
+part_refused w s input e n f = of_input (Refuses e) w s input n f.0 (refused input.bytes e (subst (λ (a : At). FailsReading e (file_read.reads a)) (begins w input n) f.1))
 
-pub begun : (w : View) (input : Input) (v : Abc × List (List ℕ)) (after : At) → IsNew w → file_read.reads (stand w input) ≡ Ok (v, after) → Begins file_read (at 0 input.bytes) v after
-begun w input v after n e = file_read-exact.found (at 0 input.bytes) v after (omega arith) (subst (λ (a : At). file_read.reads a ≡ Ok (v, after)) (begins w input n) e)
+pub begun : (w : View) (input : Input) (v : Abc × List (List ℕ)) (after : At) → IsNew w → file_read.reads (stand w input) ≡ Ok (v, after) → Begins file_read (at_of 0 input.bytes) v after
+begun w input v after n e = file_read-exact.found (at_of 0 input.bytes) v after (omega arith) (subst (λ (a : At). file_read.reads a ≡ Ok (v, after)) (begins w input n) e)
 
 -- a byte follows the file
-pub trails : (w2 : View) (input : Input) (v : Abc × List (List ℕ)) (place : ℕ) (reason : _) → place ≡ w2.place → reason ≡ reasons.Trailing → Begins file_read (at 0 input.bytes) v (stand w2 input) → drop w2.place input.bytes ≢ [] → IsBadFile input.bytes (refusal place reason)
+pub trails : (w2 : View) (input : Input) (v : Abc × List (List ℕ)) (place : ℕ) (reason : _) → place ≡ w2.place → reason ≡ reasons.Trailing → Begins file_read (at_of 0 input.bytes) v (stand w2 input) → drop w2.place input.bytes ≢ [] → IsBadFile input.bytes (refusal place reason)
 trails w2 input v place reason here is b some =
-    let bad : IsBadFile input.bytes (refusal w2.place reasons.Trailing) = inr (v.0, stand w2 input, read_begins (at 0 input.bytes) v (stand w2 input) b, some, refl) in
+    let bad : IsBadFile input.bytes (refusal w2.place reasons.Trailing) = inr (v.0, stand w2 input, read_begins (at_of 0 input.bytes) v (stand w2 input) b, some, refl) in
     rw (here, is) bad
 
 -- ---- the whole, with what is kept of the places
 
-unkept : {K : Type 0} (of_places : List (List ℕ) → K) (e : ReadError) (from : At) → Fails e ((image (keeping of_places) file_read).reads from) → Fails e (file_read.reads from)
+unkept : {K : Type 0} (of_places : List (List ℕ) → K) (e : ReadError) (from : At) → FailsReading e ((image (keeping of_places) file_read).reads from) → FailsReading e (file_read.reads from)
 unkept of_places (errors.Refused place reason) from f = unmapped (keeping of_places) (file_read.reads from) (refusal place reason) f
 unkept of_places errors.ReadFault from f = tt
 unkept of_places errors.NoMemory from f = tt
 
 pub all_refused : {K : Type 0} (of_places : List (List ℕ) → K) (w w2 : View) (s s2 : Option (List ℕ)) (e : ReadError) → IsNew w → Reads (image (keeping of_places) file_read).reads w s w2 s2 (Err e) → OfInput s (λ b. AnswersKept of_places b (Err e))
-all_refused of_places w w2 s s2 e n r = let f = r n.kept in part_refused w s (known w2 s2) e n (f.0, unkept of_places e (stand w (known w2 s2)) f.1)
+all_refused of_places w w2 s s2 e n r = let f = r n.kept in part_refused w s (known_input w2 s2) e n (f.0, unkept of_places e (stand w (known_input w2 s2)) f.1)
 
 module _ {K : Type 0} (of_places : List (List ℕ) → K) (w w2 w3 : View) (s s2 s3 : Option (List ℕ)) (x : Abc × K) (n : IsNew w) (r : Reads (image (keeping of_places) file_read).reads w s w2 s2 (Ok x)) where
   found : (input : Input) → IsInput w2 s2 input → IsInput w s input × Mapped (keeping of_places) (file_read.reads (stand w input)) x (stand w2 input)
   found input is = let h = r.4 input is in (h.0, mapped (keeping of_places) (file_read.reads (stand w input)) x (stand w2 input) h.1)
 
-  pub all_read : IsEnd w2 s2 w3 s3 → OfInput s (λ b. AnswersKept of_places b (Ok x))
+  pub all_read : IsInputEnd w2 s2 w3 s3 → OfInput s (λ b. AnswersKept of_places b (Ok x))
   all_read end =
-      let input = known w3 s3 in
+      let input = known_input w3 s3 in
       let h = found input end.input in
       let v = h.1.value in
       of_input (λ b. AnswersKept of_places b (Ok x)) w s input n h.0 (v, whole_begins file_read v input.bytes (stand w2 input) (begun w input v (stand w2 input) n h.1.read) end.none, h.1.is)
 
   pub more_follows : (e : ReadError) → IsTrailing w2 s2 w3 s3 e → OfInput s (λ b. AnswersKept of_places b (Err e))
   more_follows (errors.Refused place reason) t =
-      let input = known w3 s3 in
+      let input = known_input w3 s3 in
       let h = found input t.2 in
       of_input (λ b. AnswersKept of_places b (Err (errors.Refused place reason))) w s input n h.0 (trails w2 input h.1.value place reason t.0 t.1 (begun w input h.1.value (stand w2 input) n h.1.read) t.3)
   more_follows errors.ReadFault t = of_any (λ b. AnswersKept of_places b (Err errors.ReadFault)) s (λ b. tt)
@@ -104,15 +104,15 @@ places_kept (Err e) p = tt
 -- ---- nothing of the input is left
 
 tells_still : (w w2 : View) (b : List ℕ) (s2 : Option (List ℕ)) → ((input : Input) → IsInput w2 s2 input → IsInput w (Some b) input) → (left : List ℕ) × (s2 ≡ Some left)
-tells_still w w2 b None same = absurd (let told = (same (known w2 None) (known_is w2 None)).0 in cc)
+tells_still w w2 b None same = absurd (let told_bytes = (same (known_input w2 None) (known_is w2 None)).0 in cc)
 tells_still w w2 b (Some left) same = (left, refl)
 
 -- where the source told its bytes, and tells of no more
-pub used_up : (w w2 : View) (s s2 : Option (List ℕ)) → ((input : Input) → IsInput w2 s2 input → IsInput w s input) → told s2 ≡ [] → IsUsedUp s s2
+pub used_up : (w w2 : View) (s s2 : Option (List ℕ)) → ((input : Input) → IsInput w2 s2 input → IsInput w s input) → told_bytes s2 ≡ [] → IsUsedUp s s2
 used_up w w2 None s2 same none = tt
 used_up w w2 (Some b) s2 same none =
     let t = tells_still w w2 b s2 same in
-    let no_left : t.0 ≡ [] = ap told (sym t.1) ∙ none in
+    let no_left : t.0 ≡ [] = ap told_bytes (sym t.1) ∙ none in
     t.1 ∙ ap (λ (l : List ℕ). Some l) no_left
 
 pub used_up_first : (w w2 : View) (s s2 s3 : Option (List ℕ)) → ((input : Input) → IsInput w2 s2 input → IsInput w s input) → IsUsedUp s2 s3 → IsUsedUp s s3
@@ -122,9 +122,9 @@ used_up_first w w2 (Some b) s2 s3 same used = let t = tells_still w w2 b s2 same
 -- ---- how much is taken
 
 -- what a new window has taken by now is what its source has lost
-pub taken_little : (w w2 : View) (s s2 : Option (List ℕ)) → IsNew w → length w2.taken ≤ 2 ^ 24 + 1 → IsInput w s (known w2 s2) → TakesAtMost s s2 (2 ^ 24 + 1)
+pub taken_little : (w w2 : View) (s s2 : Option (List ℕ)) → IsNew w → length w2.taken ≤ 2 ^ 24 + 1 → IsInput w s (known_input w2 s2) → TakesAtMost s s2 (2 ^ 24 + 1)
 taken_little w w2 None s2 n few is = ([], tt, omega arith)
-taken_little w w2 (Some b) None n few is = absurd (let told = is.0 in cc)
+taken_little w w2 (Some b) None n few is = absurd (let told_bytes = is.0 in cc)
 taken_little w w2 (Some b) (Some left) n few is = (w2.taken, sym (is.1 ∙ ap (λ (t : List ℕ). t ++ b) n.taken), few)
 
 -- nothing is taken

@@ -20,7 +20,7 @@ use Rattle.abc_file_types.specs.Bodies.{bodies, bodies_alone, body, body_list, b
 use Rattle.abc_file_types.specs.Classes.{definitions, sizes_of}
 use Rattle.abc_file_types.specs.Code.{Means, MeansAll, code, code_body}
 use Rattle.abc_file_types.specs.Files.{file, file_bytes}
-use Rattle.abc_file_types.specs.Instructions.{Branch, RawInstr, Same, Switch, instruction, opcode, opcode_in, operands}
+use Rattle.abc_file_types.specs.Instructions.{Branch, RawInstr, Same, Switch, instruction, opcode_part, opcode_in, operand_parts}
 use Rattle.abc_file_types.specs.Opcodes.{form_at, info_at, is_opcode}
 use Rattle.abc_file_types.specs.Pools.{is_multiname_kind, multiname, multiname_fields, multiname_kind, multiname_kind_in, multiname_kind_of, multiname_of, multinames, pools, pools_of}
 use Rattle.abc_file_types.proofs.Whole.{file-canonical}
@@ -93,7 +93,7 @@ other_form op form f differs = go (nat_eq op 0x53) (λ e. differs (apply_form op
   go true h = absurd (h refl)
   go false h = refl
 
-opcode_tells : (op : ℕ) (form : Form) (raw : RawInstr) (b : List ℕ) → form ≡ unwrap_or (form_at op) forms.Plain → (operands op form).spells raw b → nat_eq op 0x53 ≡ is_raw_applytype raw
+opcode_tells : (op : ℕ) (form : Form) (raw : RawInstr) (b : List ℕ) → form ≡ unwrap_or (form_at op) forms.Plain → (operand_parts op form).spells raw b → nat_eq op 0x53 ≡ is_raw_applytype raw
 opcode_tells op forms.Plain raw b f s = rw s.0 (other_form op forms.Plain f (λ e. absurd cc))
 opcode_tells op forms.One raw b f s = rw s.2 refl
 opcode_tells op forms.Two raw b f s = rw s.2 (other_form op forms.Two f (λ e. absurd cc))
@@ -104,8 +104,8 @@ opcode_tells op forms.Short raw b f s = rw s.2 (other_form op forms.Short f (λ 
 opcode_tells op forms.ScopeObject raw b f s = rw s.2 (other_form op forms.ScopeObject f (λ e. absurd cc))
 opcode_tells op forms.Debug raw b f s = rw s.2 (other_form op forms.Debug f (λ e. absurd cc))
 
-opcode_form : (o : ℕ × Form) (b : List ℕ) → opcode.spells o b → o.1 ≡ unwrap_or (form_at o.0) forms.Plain
-unfolding opcode
+opcode_form : (o : ℕ × Form) (b : List ℕ) → opcode_part.spells o b → o.1 ≡ unwrap_or (form_at o.0) forms.Plain
+unfolding opcode_part
 opcode_form o b s = ap (λ (p : ℕ × Form). p.1) s.2 ∙ ap (λ (p : ℕ × Form). unwrap_or (form_at p.0) forms.Plain) (sym s.2)
 
 known_opcode : (op : ℕ) → is_opcode false op ≡ true → is_opcode true op ≡ true
@@ -117,8 +117,8 @@ old_opcode op h = grind (arith, nat_tests)
 kept_opcode : (op : ℕ) → is_opcode true op ≡ true → nat_eq op 0x53 ≡ false → is_opcode false op ≡ true
 kept_opcode op h t = rw t h
 
-opcode_narrows : Narrows (opcode_in false) opcode (λ o. nat_eq o.0 0x53 ≡ false)
-unfolding opcode
+opcode_narrows : Narrows (opcode_in false) opcode_part (λ o. nat_eq o.0 0x53 ≡ false)
+unfolding opcode_part
 opcode_narrows = image_narrows _ _ _ (λ (o : ℕ × Form). nat_eq o.0 0x53 ≡ false) (checked_narrows (is_opcode false) (is_opcode true) _ u8 _ (λ op h. (known_opcode op h, old_opcode op h)) kept_opcode)
 
 abbrev IsNoRaw : RawInstr → Type 0
@@ -130,7 +130,7 @@ instruction_narrows =
     image_narrows (λ (x : (ℕ × Form) × RawInstr). x.1) _ _ IsNoRaw
     (told_narrows _ _ (λ x. nat_eq x.0.0 0x53 ≡ false) (λ x. is_raw_applytype x.1 ≡ false)
     (λ x b s h. sym (opcode_tells x.0.0 x.0.1 x.1 s.1 (opcode_form x.0 s.0 s.3) s.4) ∙ h) (λ x b s h. opcode_tells x.0.0 x.0.1 x.1 s.1 (opcode_form x.0 s.0 s.3) s.4 ∙ h)
-    (first_narrows (opcode_in false) opcode (λ o. operands o.0 o.1) (λ o. nat_eq o.0 0x53 ≡ false) opcode_narrows))
+    (first_narrows (opcode_in false) opcode_part (λ o. operand_parts o.0 o.1) (λ o. nat_eq o.0 0x53 ≡ false) opcode_narrows))
 
 -- ---- code
 

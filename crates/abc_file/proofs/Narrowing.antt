@@ -6,7 +6,7 @@ use Rattle.std.proofs.lemmas.List.Elements.{All-cons, All-head, All-nil, All-pus
 use Rattle.abc_file_types.specs.declared.reason.Reason.{Reason}
 use Rattle.abc_file_types.specs.Lists.{chain, pool_by, times}
 use Rattle.abc_file_types.specs.Numbers.{u30}
-use Rattle.abc_file_types.specs.Part.{Part, checked, image, then_by}
+use Rattle.abc_file_types.specs.Part.{Part, with_test, image, then_by}
 
 -- q spells just what p spells of the values that are P
 pub record Narrows {A : Type 0} (q p : Part A) (P : A → Type 0) : Type 0 where
@@ -20,7 +20,7 @@ image_narrows f q p P n = record {
 }
 
 pub checked_narrows : {A : Type 0} (few all : A → Bool) (reason : Reason) (p : Part A) (P : A → Type 0)
-    → ((x : A) → few x ≡ true → (all x ≡ true) × P x) → ((x : A) → all x ≡ true → P x → few x ≡ true) → Narrows (checked few reason p) (checked all reason p) P
+    → ((x : A) → few x ≡ true → (all x ≡ true) × P x) → ((x : A) → all x ≡ true → P x → few x ≡ true) → Narrows (with_test few reason p) (with_test all reason p) P
 checked_narrows few all reason p P wide back = record {
   wider = λ x b s. let w = wide x s.1 in ((s.0, w.0), w.1);
   narrower = λ x b s h. (s.0, back x s.1 h);

@@ -10,7 +10,7 @@ use Rattle.abc_file_types.specs.declared.instructions.Code.{Code}
 use Rattle.abc_file_types.specs.declared.names.Multiname.{Multiname}
 use Rattle.abc_file_types.specs.declared.names.Multiname.TheVariants as names
 use Rattle.abc_file_types.specs.declared.tables.Abc.{Abc}
-use Rattle.abc_file_types.specs.Bodies.{bodies_of, body_list_of, body_method, body_of}
+use Rattle.abc_file_types.specs.Bodies.{bodies_of, body_list_of, body_method, body_of_parts}
 use Rattle.abc_file_types.specs.Classes.{sizes_of}
 use Rattle.abc_file_types.specs.Code.{code_body_of, code_of}
 use Rattle.abc_file_types.specs.Files.{file_of}
@@ -27,7 +27,7 @@ unfoldable pub narrow_code_body : ℕ → Part Code
 narrow_code_body n = code_body_of narrow_instruction (pieces_of narrow_instruction n) n
 
 unfoldable pub narrow_body : Abc → List ℕ → Part (Body × List ℕ)
-narrow_body abc taken = body_of (code_of narrow_code_body) (sizes_of abc) (body_method (sizes_of abc) taken)
+narrow_body abc taken = body_of_parts (code_of narrow_code_body) (sizes_of abc) (body_method (sizes_of abc) taken)
 
 unfoldable pub narrow_bodies : Abc → Part Abc
 narrow_bodies abc = image (λ x. x.0) (bodies_of (body_list_of (narrow_body abc)) abc)

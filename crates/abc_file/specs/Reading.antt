@@ -6,7 +6,7 @@ use Rattle.abc_file_types.specs.Part.{no_end, refusal}
 use Rattle.abc_varint.specs.View.{View}
 use Rattle.abc_varint.specs.declared.error.ReadError.{ReadError}
 use Rattle.abc_varint.specs.declared.error.ReadError.TheVariants as errors
-use Rattle.abc_varint.specs.Reads.{IsInput, known}
+use Rattle.abc_varint.specs.Reads.{IsInput, known_input}
 use Rattle.abc_file_types.specs.declared.reason.Reason.TheVariants as reasons
 use Rattle.abc_file_types.specs.declared.tables.Abc.{Abc}
 use Rattle.abc_file_types.specs.Files.{IsFile, IsFileRead, IsBadFile, file_bytes}
@@ -37,23 +37,23 @@ pub record IsNew (w : View) : Type 0 where
   pub end : w.end ≡ no_end
 
 -- What is known now may have been the input before, and nothing of it stands ahead.
-pub record IsEnd (w : View) (s : Option (List ℕ)) (w2 : View) (s2 : Option (List ℕ)) : Type 0 where
-  pub input : IsInput w s (known w2 s2)
-  pub none : drop w.place (known w2 s2).bytes ≡ []
+pub record IsInputEnd (w : View) (s : Option (List ℕ)) (w2 : View) (s2 : Option (List ℕ)) : Type 0 where
+  pub input : IsInput w s (known_input w2 s2)
+  pub none : drop w.place (known_input w2 s2).bytes ≡ []
 
 -- the Err of a file that something follows: at its first byte, or that of a failed read
 abbrev pub IsTrailing : View → Option (List ℕ) → View → Option (List ℕ) → ReadError → Type 0
-IsTrailing w s w2 s2 (errors.Refused place reason) = (place ≡ w.place) × (reason ≡ reasons.Trailing) × IsInput w s (known w2 s2) × (drop w.place (known w2 s2).bytes ≢ [])
+IsTrailing w s w2 s2 (errors.Refused place reason) = (place ≡ w.place) × (reason ≡ reasons.Trailing) × IsInput w s (known_input w2 s2) × (drop w.place (known_input w2 s2).bytes ≢ [])
 IsTrailing w s w2 s2 errors.ReadFault = Unit {0}
 IsTrailing w s w2 s2 errors.NoMemory = ⊥
 
 -- they are what is written of the file that the input spells
-abbrev pub Writes : (Abc → List ℕ) → List ℕ → List ℕ → Type 0
-Writes write bytes input = (v : Abc) × IsFile v input × (bytes ≡ write v)
+abbrev pub WritesFile : (Abc → List ℕ) → List ℕ → List ℕ → Type 0
+WritesFile write bytes input = (v : Abc) × IsFile v input × (bytes ≡ write v)
 
 -- The bytes are what `write` makes of the file that the input spells. The input is `left`, where the source tells it, or else some input.
 abbrev pub IsWrittenOf : (Abc → List ℕ) → Option (List ℕ) → List ℕ → Type 0
-IsWrittenOf write left bytes = OfInput left (Writes write bytes)
+IsWrittenOf write left bytes = OfInput left (WritesFile write bytes)
 
 -- they are the canonical bytes of that file
 abbrev pub IsCanonicalOf : Option (List ℕ) → List ℕ → Type 0
@@ -66,8 +66,8 @@ Refuses errors.ReadFault input = Unit {0}
 Refuses errors.NoMemory input = Unit {0}
 
 -- The error, if it is a refusal, is the first fault of the input. The input is `left`, where the source tells it, or else some input.
-abbrev pub IsFaultOf : Option (List ℕ) → ReadError → Type 0
-IsFaultOf left e = OfInput left (Refuses e)
+abbrev pub IsErrorOf : Option (List ℕ) → ReadError → Type 0
+IsErrorOf left e = OfInput left (Refuses e)
 
 -- an accepted value is that which all the bytes spell, with what is kept of the places of its instructions; a refusal is their first fault
 abbrev pub AnswersKept : {K : Type 0} → (List (List ℕ) → K) → List ℕ → Result (Abc × K) ReadError → Type 0

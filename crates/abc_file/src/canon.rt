@@ -1,10 +1,10 @@
 ghost use Rattle.std.specs.Prelude.{◌≡◌, ◌≤◌, ◌+◌, ◌^◌, ◌++◌, [], Err, IfOk, IfErr, OnOk, None};
 ghost use Rattle.abc_base.specs.Faults.{Rose};
 ghost use Rattle.abc_base.specs.Taking.{TakesAtMost};
-ghost use Rattle.abc_file.specs.Reading.{IsCanonicalOf, IsFaultOf, IsNew, IsUsedUp};
+ghost use Rattle.abc_file.specs.Reading.{IsCanonicalOf, IsErrorOf, IsNew, IsUsedUp};
 ghost use Rattle.abc_file_types.specs.Files.{file_bytes, file_read, version, version_bytes};
-ghost use Rattle.abc_varint.specs.Passes.{Passes, PassesPart, nothing};
-ghost use Rattle.abc_varint.specs.Reads.{IsInput, Reads, ReadsPart, known};
+ghost use Rattle.abc_varint.specs.Passes.{Passes, PassesPart, nothing_told};
+ghost use Rattle.abc_varint.specs.Reads.{IsInput, Reads, ReadsPart, known_input};
 ghost use Rattle.abc_varint.specs.declared.error.ReadError.{ReadError};
 
 use crate::reading::read_version;
@@ -23,7 +23,8 @@ fn pass_version<S: Source>(
     source: &mut S,
     out: &mut Vec<u8>,
 ) -> Result<(), ReadError>
-    ensures { PassesPart S.left S.faults version (λ _. version_bytes) nothing w.old source.old w.new source.new out.old.items out.new.items result }
+    ensures { PassesPart S.left S.faults version (λ _. version_bytes) nothing_told w.old source.old w.new
+        source.new out.old.items out.new.items result }
 {
     read_version(w, source)?;
     put_u16(16, out)?;
@@ -39,7 +40,8 @@ fn pass_file<S: Source>(
     source: &mut S,
     out: &mut Vec<u8>,
 ) -> Result<(), ReadError>
-    ensures { PassesPart S.left S.faults file_read (λ x. file_bytes x.0) nothing w.old source.old w.new source.new out.old.items out.new.items result }
+    ensures { PassesPart S.left S.faults file_read (λ x. file_bytes x.0) nothing_told w.old source.old w.new
+        source.new out.old.items out.new.items result }
 {
     pass_version(w, source, out)?;
     let pools = pass_pools(alloc, w, source, out)?;
@@ -59,8 +61,8 @@ fn pass_to_end<S: Source>(
     requires window { IsNew w.old }
     requires bytes { out.old.items ≡ [] }
     ensures bytes { OnOk result (IsCanonicalOf (S.left source.old) out.new.items) }
-    ensures fault { IfErr result (λ e. IsFaultOf (S.left source.old) e) }
-    ensures input { IsInput w.old (S.left source.old) (known w.new (S.left source.new)) }
+    ensures fault { IfErr result (λ e. IsErrorOf (S.left source.old) e) }
+    ensures input { IsInput w.old (S.left source.old) (known_input w.new (S.left source.new)) }
     ensures end { OnOk result (IsUsedUp (S.left source.old) (S.left source.new)) }
     ensures later { S.faults source.old ≤ S.faults source.new }
     ensures cause { result ≡ Err ReadError.ReadFault → Rose (S.faults source.old) (S.faults source.new) }
@@ -75,7 +77,7 @@ fn pass_to_end<S: Source>(
 /// rose, and `NoMemory` where memory ran out. At most 2^24 + 1 bytes are taken, whatever is answered.
 pub fn canonical<S: Source>(alloc: Global, source: &mut S) -> Result<Vec<u8>, ReadError>
     ensures bytes { IfOk result (λ v. IsCanonicalOf (S.left source.old) v.items) }
-    ensures fault { IfErr result (λ e. IsFaultOf (S.left source.old) e) }
+    ensures fault { IfErr result (λ e. IsErrorOf (S.left source.old) e) }
     ensures taken { TakesAtMost (S.left source.old) (S.left source.new) (2 ^ 24 + 1) }
     ensures end { OnOk result (IsUsedUp (S.left source.old) (S.left source.new)) }
     ensures later { S.faults source.old ≤ S.faults source.new }

@@ -33,14 +33,17 @@ pub fn canonical_form()
 
 /// What is read beside the starts of instructions is the file, and each of its bodies can be written.
 pub fn reading_gives_the_file()
-    ensures file { (v : Abc) → (starts : List (List ℕ)) → (b : List ℕ) → IsFileRead (v, starts) b → IsFile v b }
+    ensures file { (v : Abc) → (starts : List (List ℕ)) → (b : List ℕ) → IsFileRead (v, starts) b
+        → IsFile v b }
     ensures ready { (v : Abc) → (b : List ℕ) → IsFile v b → All IsReadyBody v.bodies }
 {}
 
 /// The narrow format, which has no multinames of kind 1D and no opcode 53, spells just the files without them, by the same
 /// bytes as the format does; so the same bytes are canonical of such a file in both.
 pub fn widening()
-    ensures same_values { (v : Abc) → (b : List ℕ) → (narrow_file.spells v b ↔ (file.spells v b × IsNarrow v)) }
+    ensures same_values { (v : Abc) → (b : List ℕ)
+        → (narrow_file.spells v b ↔ (file.spells v b × IsNarrow v)) }
     ensures canonical { IsCanonical narrow_file file_bytes }
-    ensures same_bytes { (v : Abc) → (b : List ℕ) → IsNarrow v → (IsLeast narrow_file v b ↔ IsLeast file v b) }
+    ensures same_bytes { (v : Abc) → (b : List ℕ) → IsNarrow v
+        → (IsLeast narrow_file v b ↔ IsLeast file v b) }
 {}

@@ -2,13 +2,13 @@ ghost use Rattle.std.specs.Prelude.{◌≡◌, ◌≤◌, ◌+◌, ◌^◌, Ok, 
 ghost use Rattle.abc_base.specs.Faults.{Rose};
 ghost use Rattle.abc_base.specs.Taking.{TakesAtMost};
 ghost use Rattle.abc_file_types.specs.Numbers.{u16 as two_bytes};
-ghost use Rattle.abc_file_types.specs.Part.{checked, image};
-ghost use Rattle.abc_file.specs.Reading.{AnswersFile, AnswersKept, IsFaultOf, IsNew, IsTrailing, IsUsedUp, OfInput};
+ghost use Rattle.abc_file_types.specs.Part.{with_test, image};
+ghost use Rattle.abc_file.specs.Reading.{AnswersFile, AnswersKept, IsErrorOf, IsNew, IsTrailing, IsUsedUp, OfInput};
 ghost use Rattle.abc_bodies.specs.Places.{ArePlaces, KeepPlaces};
 ghost use Rattle.abc_bodies.specs.Reading.{keeping};
 ghost use Rattle.abc_file_types.specs.Bodies.{IsReadyBody};
 ghost use Rattle.abc_file_types.specs.Files.{Fits, IsFile, file_read, version};
-ghost use Rattle.abc_varint.specs.Reads.{IsInput, ReadsPart, known};
+ghost use Rattle.abc_varint.specs.Reads.{IsInput, ReadsPart, known_input};
 ghost use Rattle.abc_varint.specs.declared.error.ReadError.{ReadError};
 
 use crate::rest::read_nothing_more;
@@ -26,7 +26,8 @@ fn read_version_number<S: Source>(
     source: &mut S,
     wanted: u16,
 ) -> Result<u16, ReadError>
-    ensures { ReadsPart S.left S.faults (checked (λ n. nat_eq n wanted) Reason.Version two_bytes) w.old source.old w.new source.new result }
+    ensures { ReadsPart S.left S.faults (with_test (λ n. nat_eq n wanted) Reason.Version two_bytes) w.old
+        source.old w.new source.new result }
 {
     let place = w.place();
     let number = read_u16(w, source)?;
@@ -56,7 +57,8 @@ fn read_file<S: Source, K: Keeping>(
     w: &mut Window,
     source: &mut S,
 ) -> Result<(Abc, K), ReadError>
-    ensures value { ReadsPart S.left S.faults (image (keeping K.of_places) file_read) w.old source.old w.new source.new result }
+    ensures value { ReadsPart S.left S.faults (image (keeping K.of_places) file_read) w.old source.old w.new
+        source.new result }
     ensures places { IfOk result (λ x. KeepPlaces K.of_places (x.0).bodies x.1) }
     ensures ready { IfOk result (λ x. All IsReadyBody (x.0).bodies) }
 {
@@ -79,7 +81,7 @@ fn read_to_end<S: Source, K: Keeping>(
     ensures fits { IfOk result (λ x. Fits x.0) }
     ensures places { IfOk result (λ x. KeepPlaces K.of_places (x.0).bodies x.1) }
     ensures ready { IfOk result (λ x. All IsReadyBody (x.0).bodies) }
-    ensures input { IsInput w.old (S.left source.old) (known w.new (S.left source.new)) }
+    ensures input { IsInput w.old (S.left source.old) (known_input w.new (S.left source.new)) }
     ensures end { OnOk result (IsUsedUp (S.left source.old) (S.left source.new)) }
     ensures later { S.faults source.old ≤ S.faults source.new }
     ensures cause { result ≡ Err ReadError.ReadFault → Rose (S.faults source.old) (S.faults source.new) }
@@ -127,7 +129,7 @@ pub fn read<S: Source>(alloc: Global, source: &mut S) -> Result<(Abc, Places), R
 /// Reads a file as `read` does, and keeps nothing of where instructions began.
 pub fn read_alone<S: Source>(alloc: Global, source: &mut S) -> Result<Abc, ReadError>
     ensures file { IfOk result (λ v. OfInput (S.left source.old) (IsFile v)) }
-    ensures fault { IfErr result (λ e. IsFaultOf (S.left source.old) e) }
+    ensures fault { IfErr result (λ e. IsErrorOf (S.left source.old) e) }
     ensures fits { IfOk result Fits }
     ensures taken { TakesAtMost (S.left source.old) (S.left source.new) (2 ^ 24 + 1) }
     ensures end { OnOk result (IsUsedUp (S.left source.old) (S.left source.new)) }

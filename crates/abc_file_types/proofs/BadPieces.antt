@@ -1,7 +1,7 @@
 -- The first piece that is bad.
 use Rattle.std.proofs.Common.{◌≡◌, ℕ, zero, suc, ◌+◌, ◌-◌, ◌<◌, ◌≤◌, inl, inr, List, [], ◌∷◌, ◌++◌, length, refl, ap, subst, ◌∙◌, length-append, arith}
 use Rattle.abc_file_types.proofs.Exact.{Front-then, Front-first, Front-second}
-use Rattle.abc_file_types.specs.Ends.{BadPiece, IsNonEmpty, Pieces, fill, inside, measured}
+use Rattle.abc_file_types.specs.Ends.{BadPiece, IsNonEmpty, Pieces, fill, inside, with_byte_count}
 use Rattle.abc_file_types.specs.Part.{At, Begins, Front, Part, Refusal, further, limit}
 
 Front-none : (from : At) → from.place ≤ limit → Front from [] from
@@ -45,7 +45,7 @@ bad_fill_at (suc k) (suc n) p from r (x ∷ xs) front after full le s f lt b =
     let mid : At = further from (from.place + length s.0) (s.1 ++ after.bytes) in
     let len : length front ≡ length s.0 + length s.1 = ap length s.2 ∙ length-append s.0 s.1 in
     let some : 1 ≤ length s.0 = full.some x.0 s.0 s.3 in
-    let one : Begins (measured (inside (suc n) p)) from x mid = record { front = s.0; spelled = ((s.3, omega arith), s.4); is = Front-first from s.0 s.1 after whole } in
+    let one : Begins (with_byte_count (inside (suc n) p)) from x mid = record { front = s.0; spelled = ((s.3, omega arith), s.4); is = Front-first from s.0 s.1 after whole } in
     let e : suc n - length front ≡ suc n - x.1 - length s.1 = omega (arith, s.4, len) in
     inr (x, mid, one, bad_fill_at k (suc n - x.1) p mid r xs s.1 after full (omega (arith, s.4)) s.5 (Front-second from s.0 s.1 after whole) (omega (arith, s.4)) (subst (λ (m : ℕ). (inside m p).bad after r) e b))
 

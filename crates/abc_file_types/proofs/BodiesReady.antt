@@ -2,14 +2,14 @@
 use Rattle.std.proofs.Common.{◌≡◌, ℕ, zero, suc, List, [], ◌∷◌, ◌++◌, length, map, sym, ap, subst, ◌∙◌, arith}
 use Rattle.std.specs.List.{All}
 use Rattle.std.proofs.lemmas.List.Elements.{All-cons, All-map, All-nil, All-push, All-same}
-use Rattle.abc_file_types.specs.Lists.{chain, counted, times}
+use Rattle.abc_file_types.specs.Lists.{chain, count_and_items, times}
 use Rattle.abc_file_types.specs.Part.{Part}
 use Rattle.abc_file_types.specs.declared.code.Body.{Body}
 use Rattle.abc_file_types.specs.declared.code.Handler.{Handler}
 use Rattle.abc_file_types.specs.declared.instructions.Code.{Code}
 use Rattle.abc_file_types.specs.declared.tables.Abc.{Abc}
 use Rattle.abc_file_types.specs.declared.tables.Sizes.{Sizes}
-use Rattle.abc_file_types.specs.Bodies.{IsReadyBody, IsWithin, bodies, bodies_alone, body, body_list, body_with, handler, methods_of}
+use Rattle.abc_file_types.specs.Bodies.{IsReadyBody, IsHandlerWithin, bodies, bodies_alone, body, body_list, body_with, handler, methods_of}
 use Rattle.abc_file_types.specs.Classes.{sizes_of}
 use Rattle.abc_file_types.specs.Code.{code}
 use Rattle.abc_file_types.proofs.BodiesShortest.{code_nearer, code_ready, place_is}
@@ -22,8 +22,8 @@ times_all P zero p each xs b s = All-same P xs [] s.0 (All-nil P)
 times_all P (suc n) p each xs b s =
     All-same P xs (s.0.0 ∷ s.0.1) s.2 (All-cons P s.0.0 s.0.1 (each s.0.0 s.1.0 s.1.3) (times_all P n p each s.0.1 s.1.1 s.1.4))
 
-counted_all : {A : Type 0} (P : A → Type 0) (p : Part A) → ((x : A) (b : List ℕ) → p.spells x b → P x) → (xs : List A) (b : List ℕ) → (counted p).spells xs b → All P xs
-unfolding counted
+counted_all : {A : Type 0} (P : A → Type 0) (p : Part A) → ((x : A) (b : List ℕ) → p.spells x b → P x) → (xs : List A) (b : List ℕ) → (count_and_items p).spells xs b → All P xs
+unfolding count_and_items
 counted_all P p each xs b s = All-same P xs s.0.1 s.2 (times_all P s.0.0 p each s.0.1 s.1.1 s.1.4)
 
 chain_all : {A : Type 0} (P : A → Type 0) (n : ℕ) (p : List A → Part A) → ((before : List A) (x : A) (b : List ℕ) → (p before).spells x b → P x) → (before xs : List A) (b : List ℕ) → (chain n p before).spells xs b → All P before → All P xs
@@ -33,7 +33,7 @@ chain_all P (suc n) p each before xs b s all =
 
 -- ---- bodies
 
-pub handler_within : (v : Sizes) (ss : List ℕ) (n : ℕ) → length ss ≡ suc n → (h : Handler) (b : List ℕ) → (handler v ss).spells h b → IsWithin n h
+pub handler_within : (v : Sizes) (ss : List ℕ) (n : ℕ) → length ss ≡ suc n → (h : Handler) (b : List ℕ) → (handler v ss).spells h b → IsHandlerWithin n h
 unfolding handler
 handler_within v ss n count h b s =
     let x = s.0 in
@@ -41,7 +41,7 @@ handler_within v ss n count h b s =
     let from = place_is ss x.0 t.0 t.3 in
     let to = place_is ss x.1.0 t.4.0 t.4.3 in
     let target = place_is ss x.1.1.0 t.4.4.0 t.4.4.3 in
-    subst (IsWithin n) (sym s.2) (record { from = omega (arith, from.within); to = omega (arith, to.within); target = omega (arith, target.within) })
+    subst (IsHandlerWithin n) (sym s.2) (record { from = omega (arith, from.within); to = omega (arith, to.within); target = omega (arith, target.within) })
 
 pub code_count : (c : Code) (b : List ℕ) → code.spells c b → length c.offsets ≡ suc (length c.instrs)
 code_count c b s = sym (code_nearer c b s).count ∙ canonical_count c.instrs
@@ -54,7 +54,7 @@ body_ready v taken y b s =
     let t = s.1.4.4.4.4.4 in
     let ready : IsReadyBody _ = record {
       code = code_ready c t.0 t.3;
-      places = counted_all (IsWithin (length c.instrs)) (handler v c.offsets) (handler_within v c.offsets (length c.instrs) (code_count c t.0 t.3)) x.1.1.1.1.1.1.0 t.4.0 t.4.3;
+      places = counted_all (IsHandlerWithin (length c.instrs)) (handler v c.offsets) (handler_within v c.offsets (length c.instrs) (code_count c t.0 t.3)) x.1.1.1.1.1.1.0 t.4.0 t.4.3;
     } in
     subst (λ (z : Body × List ℕ). IsReadyBody z.0) (sym s.2) ready
 

@@ -14,7 +14,7 @@ use Rattle.abc_base.specs.Numbers.{number_bytes}
 use Rattle.abc_base.proofs.Spelling.{number_grows}
 use Rattle.abc_file_types.specs.Canonical.{IsCanonical, NoGreater, counted_bytes}
 use Rattle.abc_file_types.specs.Ends.{Pieces}
-use Rattle.abc_file_types.specs.Lists.{chain, counted}
+use Rattle.abc_file_types.specs.Lists.{chain, count_and_items}
 use Rattle.abc_file_types.specs.Numbers.{u30}
 use Rattle.abc_file_types.specs.Part.{Part, both, then_by}
 use Rattle.abc_file_types.proofs.Canon.{both-canonical, image-canonical, checked-canonical, counted-canonical, index_below-canonical, pool_index-canonical, u30-canonical, u30_fits}
@@ -27,7 +27,7 @@ use Rattle.abc_file_types.specs.declared.tables.Sizes.{Sizes}
 use Rattle.abc_file_types.specs.Bodies.{handler, handler_bytes, body_method, body_with, body, body_bytes, body_list, bodies, bodies_bytes, bodies_alone, methods_of}
 use Rattle.abc_file_types.specs.Classes.{sizes_of}
 use Rattle.abc_file_types.specs.Code.{MeansAll, SpellsCode, code, code_body, code_listing}
-use Rattle.abc_file_types.specs.CodeBytes.{canonical_starts, code_bytes, code_len, instr_len, instrs_bytes, sized}
+use Rattle.abc_file_types.specs.CodeBytes.{canonical_starts, code_bytes, code_len, instr_len, instrs_bytes, with_lengths}
 use Rattle.abc_file_types.specs.Instructions.{RawInstr, code_length, instruction}
 use Rattle.abc_file_types.specs.Places.{instruction_place}
 use Rattle.abc_file_types.specs.Ready.{IsReady}
@@ -129,13 +129,13 @@ some_bytes (instrs.Short z) = omega arith
 some_bytes (instrs.ScopeObject x) = omega arith
 some_bytes (instrs.Debug kind name reg extra) = omega arith
 
-all_long : (is : List Instr) → All (λ p. 0 < p.1) (sized is)
+all_long : (is : List Instr) → All (λ p. 0 < p.1) (with_lengths is)
 all_long [] = All-nil (λ p. 0 < p.1)
-all_long (i ∷ is) = All-cons (λ p. 0 < p.1) (i, instr_len i) (sized is) (some_bytes i) (all_long is)
+all_long (i ∷ is) = All-cons (λ p. 0 < p.1) (i, instr_len i) (with_lengths is) (some_bytes i) (all_long is)
 
 pub canonical_rising : (is : List Instr) → IsRising (canonical_starts is)
 unfolding canonical_starts
-canonical_rising is = starts_rising (sized is) (all_long is)
+canonical_rising is = starts_rising (with_lengths is) (all_long is)
 
 -- the first t instructions have no more bytes than their pieces
 abbrev no_pieces : List (RawInstr × ℕ)
@@ -143,15 +143,15 @@ no_pieces = []
 
 record Shorter (is : List Instr) (xs : List (RawInstr × ℕ)) : Type 0 where
   count : length is ≡ length xs
-  each : (t : ℕ) → start (sized is) t ≤ start xs t
+  each : (t : ℕ) → start (with_lengths is) t ≤ start xs t
 
-nothing : (t : ℕ) → start (sized []) t ≤ start no_pieces t
+nothing : (t : ℕ) → start (with_lengths []) t ≤ start no_pieces t
 nothing zero = omega arith
 nothing (suc t) = omega arith
 
 further : (i : Instr) (is : List Instr) (x : RawInstr × ℕ) (xs : List (RawInstr × ℕ)) → instr_len i ≤ x.1 → Shorter is xs → Shorter (i ∷ is) (x ∷ xs)
 further i is x xs le more = record { count = ap suc more.count; each = each_further } where
-  each_further : (t : ℕ) → start (sized (i ∷ is)) t ≤ start (x ∷ xs) t
+  each_further : (t : ℕ) → start (with_lengths (i ∷ is)) t ≤ start (x ∷ xs) t
   each_further zero = omega arith
   each_further (suc t) = omega (arith, more.each t)
 
@@ -172,7 +172,7 @@ body_nearer c b s =
       up = canonical_rising is;
       below = λ t lt.
           let le : t ≤ length s.pieces = omega (arith, s.offsets.count) in
-          let one = starts_from (sized is) t (omega (arith, many, length-starts 0 (sized is), h.count)) in
+          let one = starts_from (with_lengths is) t (omega (arith, many, length-starts 0 (with_lengths is), h.count)) in
           let two = s.offsets.each t le in
           omega (arith, one, two, h.each t);
     }
@@ -239,10 +239,10 @@ code_offsets c b s len =
 abbrev pub renewed : Body × List ℕ → Body × List ℕ
 renewed x = (x.0, canonical_starts x.0.code)
 
-rest-shortens : (v : Sizes) → Shortens (then_by code (λ c. both (counted (handler v c.offsets)) (counted (trait_info v)))) (then_by code (λ c. both (counted (handler v c.offsets)) (counted (trait_info v))))
+rest-shortens : (v : Sizes) → Shortens (then_by code (λ c. both (count_and_items (handler v c.offsets)) (count_and_items (trait_info v)))) (then_by code (λ c. both (count_and_items (handler v c.offsets)) (count_and_items (trait_info v))))
     (λ x. (anew x.0, (x.1.0, x.1.1))) (λ x. code_bytes x.0.instrs ++ (counted_bytes (handler_bytes (canonical_starts x.0.instrs)) x.1.0 ++ counted_bytes trait_bytes x.1.1))
 rest-shortens v =
-    then-shortens code code anew (λ c. code_bytes c.instrs) (λ c. both (counted (handler v c.offsets)) (counted (trait_info v))) (λ c. both (counted (handler v c.offsets)) (counted (trait_info v)))
+    then-shortens code code anew (λ c. code_bytes c.instrs) (λ c. both (count_and_items (handler v c.offsets)) (count_and_items (trait_info v))) (λ c. both (count_and_items (handler v c.offsets)) (count_and_items (trait_info v)))
     (λ c y. (y.0, y.1)) (λ c y. counted_bytes (handler_bytes (canonical_starts c.instrs)) y.0 ++ counted_bytes trait_bytes y.1) code-shortens
     (λ c b s. both-shortens _ _ _ _ _ _ _ _ (counted-shortens _ _ _ (handler-shortens v c.offsets (canonical_starts c.instrs) (code_nearer c b s)))
     (canonical-shortens _ _ (counted-canonical _ _ (trait_info-canonical v))))
@@ -256,16 +256,16 @@ body-shortens v taken =
     (both-shortens _ _ _ _ _ _ _ _ number (both-shortens _ _ _ _ _ _ _ _ number (both-shortens _ _ _ _ _ _ _ _ number (both-shortens _ _ _ _ _ _ _ _ number (rest-shortens v))))))
     (λ x. refl) (λ x b s. simp append_assoc)
 
-rest-lessens : (v : Sizes) → Lessens (then_by code (λ c. both (counted (handler v c.offsets)) (counted (trait_info v))))
+rest-lessens : (v : Sizes) → Lessens (then_by code (λ c. both (count_and_items (handler v c.offsets)) (count_and_items (trait_info v))))
     (λ x. code_bytes x.0.instrs ++ (counted_bytes (handler_bytes (canonical_starts x.0.instrs)) x.1.0 ++ counted_bytes trait_bytes x.1.1))
 rest-lessens v =
-    then-lessens code (λ c. code_bytes c.instrs) (λ c. both (counted (handler v c.offsets)) (counted (trait_info v))) (λ c y. counted_bytes (handler_bytes (canonical_starts c.instrs)) y.0 ++ counted_bytes trait_bytes y.1) code-lessens
+    then-lessens code (λ c. code_bytes c.instrs) (λ c. both (count_and_items (handler v c.offsets)) (count_and_items (trait_info v))) (λ c y. counted_bytes (handler_bytes (canonical_starts c.instrs)) y.0 ++ counted_bytes trait_bytes y.1) code-lessens
     (λ c b s. (both-shortens _ _ _ _ _ _ _ _ (counted-shortens _ _ _ (handler-shortens v c.offsets (canonical_starts c.instrs) (code_nearer c b s)))
     (canonical-shortens _ _ (counted-canonical _ _ (trait_info-canonical v)))).shortest)
     (λ c b s len.
     let is = code_offsets c b s len in
     let up : IsRising c.offsets = subst IsRising (sym is) (canonical_rising c.instrs) in
-    subst (λ (ss : List ℕ). Lessens (both (counted (handler v c.offsets)) (counted (trait_info v))) (λ y. counted_bytes (handler_bytes ss) y.0 ++ counted_bytes trait_bytes y.1)) is
+    subst (λ (ss : List ℕ). Lessens (both (count_and_items (handler v c.offsets)) (count_and_items (trait_info v))) (λ y. counted_bytes (handler_bytes ss) y.0 ++ counted_bytes trait_bytes y.1)) is
     (both-lessens _ _ _ _ (canonical-lessens _ _ (counted-canonical _ _ (handler-canonical v c.offsets up))) (canonical-lessens _ _ (counted-canonical _ _ (trait_info-canonical v)))))
 
 body-lessens : (v : Sizes) (taken : List ℕ) → Lessens (body v taken) (λ x. body_bytes x.0)

@@ -8,9 +8,9 @@ use Rattle.abc_file_types.specs.declared.reason.Reason.{Reason}
 use Rattle.abc_base.proofs.Spelling.{IsGroups, number_spelled, number_shortest, number_fits, number_groups}
 use Rattle.abc_base.specs.Numbers.{number_bytes, signed24}
 use Rattle.abc_file_types.specs.Canonical.{FitsS24, IsCanonical, NoGreater, counted_bytes, low24, pool_bytes, pool_count, s24_bytes}
-use Rattle.abc_file_types.specs.Lists.{counted, pool, pool_by, times}
+use Rattle.abc_file_types.specs.Lists.{count_and_items, pool, pool_by, times}
 use Rattle.abc_file_types.specs.Numbers.{number, s24, u30, u8, index_below, pool_index, entry_index}
-use Rattle.abc_file_types.specs.Part.{when, Part, both, checked, done, image, then_by}
+use Rattle.abc_file_types.specs.Part.{when, Part, both, with_test, known_value, image, then_by}
 use Rattle.abc_file_types.proofs.Lesser.{halves, no_greater_append, number_least, under_same}
 
 -- ---- numbers
@@ -20,7 +20,7 @@ number-canonical = record { spelled = number_spelled; shortest = number_shortest
 
 -- ---- the ways to make a part
 
-pub done-canonical : {A : Type 0} (x : A) (h : A → List ℕ) → h x ≡ [] → IsCanonical (done x) h
+pub done-canonical : {A : Type 0} (x : A) (h : A → List ℕ) → h x ≡ [] → IsCanonical (known_value x) h
 done-canonical x h e = record { spelled = λ y b s. (s.0, ap h s.0 ∙ e); shortest = λ y b s. rw (ap h s.0, e) (omega arith); least = λ y b s len. rw (ap h s.0, e, s.1) tt }
 
 pub then-canonical : {A B : Type 0} (p : Part A) (f : A → Part B) (cp : A → List ℕ) (cf : A → B → List ℕ) → IsCanonical p cp → ((x : A) → IsCanonical (f x) (cf x))
@@ -44,7 +44,7 @@ image-canonical f p cp h kp same = record {
   least = λ y b s len. let e : cp s.0 ≡ h y = same s.0 b s.1 ∙ ap h (sym s.2) in subst (λ (l : List ℕ). NoGreater l b) e (kp.least s.0 b s.1 (ap length e ∙ len));
 }
 
-pub checked-canonical : {A : Type 0} (test : A → Bool) (reason : Reason) (p : Part A) (cp : A → List ℕ) → IsCanonical p cp → IsCanonical (checked test reason p) cp
+pub checked-canonical : {A : Type 0} (test : A → Bool) (reason : Reason) (p : Part A) (cp : A → List ℕ) → IsCanonical p cp → IsCanonical (with_test test reason p) cp
 checked-canonical test reason p cp kp = record { spelled = λ x b s. (kp.spelled x b s.0, s.1); shortest = λ x b s. kp.shortest x b s.0; least = λ x b s len. kp.least x b s.0 len }
 
 -- ---- leaves
@@ -107,8 +107,8 @@ pub times_length : {A : Type 0} (n : ℕ) (p : Part A) (xs : List A) (b : List �
 times_length zero p xs b s = rw s.0 refl
 times_length (suc n) p xs b s = let h = times_length n p s.0.1 s.1.1 s.1.4 in rw s.2 (ap suc h)
 
-pub counted-canonical : {A : Type 0} (p : Part A) (cp : A → List ℕ) → IsCanonical p cp → IsCanonical (counted p) (counted_bytes cp)
-unfolding counted counted_bytes
+pub counted-canonical : {A : Type 0} (p : Part A) (cp : A → List ℕ) → IsCanonical p cp → IsCanonical (count_and_items p) (counted_bytes cp)
+unfolding count_and_items counted_bytes
 counted-canonical {A = A} p cp kp =
     image-canonical (λ (x : ℕ × List A). x.1) _ (λ x. number_bytes x.0 ++ flat_map cp x.1) (λ xs. number_bytes (length xs) ++ flat_map cp xs)
     (then-canonical u30 (λ n. times n p) number_bytes (λ n. flat_map cp) u30-canonical (λ n. times-canonical n p cp kp))

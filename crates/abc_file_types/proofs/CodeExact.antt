@@ -2,26 +2,26 @@
 use Rattle.std.proofs.Common.{◌≡◌, ℕ, zero, suc, ◌+◌, ◌<◌, ◌≤◌, inl, inr, List, [], ◌∷◌, length, Ok, Err, refl, sym, ap, subst, ◌∙◌, arith}
 use Rattle.std.specs.List.{All}
 use Rattle.abc_file_types.specs.declared.reason.Reason.TheVariants as reasons
-use Rattle.abc_file_types.specs.Part.{At, Refusal, refusal, Begins, limit, refined}
+use Rattle.abc_file_types.specs.Part.{At, Refusal, refusal, Begins, limit, map_or_refuse}
 use Rattle.abc_file_types.specs.Law.{Exact}
-use Rattle.abc_file_types.specs.Ends.{Pieces, BadPiece, blamed}
+use Rattle.abc_file_types.specs.Ends.{Pieces, BadPiece, blame_first}
 use Rattle.abc_file_types.proofs.Exact.{bind_ok, bind_err, image-exact, then-exact, refined-exact}
 use Rattle.abc_file_types.proofs.Within.{fill_pieces, pieces_fill}
 use Rattle.abc_file_types.proofs.BadPieces.{fill_bad, bad_fill}
 use Rattle.abc_file_types.specs.declared.instructions.Code.{Code}
 use Rattle.abc_file_types.specs.Instructions.{RawInstr, instruction, pieces}
 use Rattle.abc_file_types.specs.Starts.{starts, AreStarts}
-use Rattle.abc_file_types.specs.Targets.{instrs_of, resolve}
+use Rattle.abc_file_types.specs.Targets.{instrs_of, resolve_targets}
 use Rattle.abc_file_types.specs.Code.{SpellsCode, code_body, code, code_listing}
 use Rattle.abc_file_types.proofs.CodeParts.{instruction-some, pieces-exact, code_length-exact}
 use Rattle.abc_file_types.proofs.Meaning.{starts_are, starts_same, means_all, means_again, misses_all, misses_again}
 
 -- a piece is the same where the end is told otherwise
-unblamed : (ps : List (RawInstr × ℕ)) (b : List ℕ) → Pieces (blamed instruction) ps b → Pieces instruction ps b
+unblamed : (ps : List (RawInstr × ℕ)) (b : List ℕ) → Pieces (blame_first instruction) ps b → Pieces instruction ps b
 unblamed [] b s = s
 unblamed (x ∷ xs) b s = (s.0, s.1, s.2, s.3, s.4, unblamed xs s.1 s.5)
 
-pub blamed_pieces : (ps : List (RawInstr × ℕ)) (b : List ℕ) → Pieces instruction ps b → Pieces (blamed instruction) ps b
+pub blamed_pieces : (ps : List (RawInstr × ℕ)) (b : List ℕ) → Pieces instruction ps b → Pieces (blame_first instruction) ps b
 blamed_pieces [] b s = s
 blamed_pieces (x ∷ xs) b s = (s.0, s.1, s.2, s.3, s.4, blamed_pieces xs s.1 s.5)
 
@@ -32,47 +32,47 @@ all_long (x ∷ xs) b s = long_cons x xs (omega (arith, instruction-some.some x.
   long_cons x xs one all zero d lt = one
   long_cons x xs one all (suc k) d lt = all k d (omega arith)
 
-resolve_ok : (ps : List (RawInstr × ℕ)) (c : Code) → resolve ps ≡ Ok c → (instrs_of (starts 0 ps) 0 ps ≡ Ok c.instrs) × (c.offsets ≡ starts 0 ps)
-unfolding resolve
+resolve_ok : (ps : List (RawInstr × ℕ)) (c : Code) → resolve_targets ps ≡ Ok c → (instrs_of (starts 0 ps) 0 ps ≡ Ok c.instrs) × (c.offsets ≡ starts 0 ps)
+unfolding resolve_targets
 resolve_ok ps c e =
     let a = bind_ok (instrs_of (starts 0 ps) 0 ps) (λ is. Ok (record { instrs = is; offsets = starts 0 ps })) c e in
     let made : Code = record { instrs = a.0; offsets = starts 0 ps } in
     let same : made ≡ c = let f = a.2 in cc in
     (a.1 ∙ ap (λ (d : Code). Ok d.instrs) same, ap (λ (d : Code). d.offsets) (sym same))
 
-resolve_again : (ps : List (RawInstr × ℕ)) (c : Code) → instrs_of (starts 0 ps) 0 ps ≡ Ok c.instrs → c.offsets ≡ starts 0 ps → resolve ps ≡ Ok c
-unfolding resolve
+resolve_again : (ps : List (RawInstr × ℕ)) (c : Code) → instrs_of (starts 0 ps) 0 ps ≡ Ok c.instrs → c.offsets ≡ starts 0 ps → resolve_targets ps ≡ Ok c
+unfolding resolve_targets
 resolve_again ps c e o = rw (e, ← o) refl
 
-resolve_err : (ps : List (RawInstr × ℕ)) (d : Refusal) → resolve ps ≡ Err d → instrs_of (starts 0 ps) 0 ps ≡ Err d
-unfolding resolve
+resolve_err : (ps : List (RawInstr × ℕ)) (d : Refusal) → resolve_targets ps ≡ Err d → instrs_of (starts 0 ps) 0 ps ≡ Err d
+unfolding resolve_targets
 resolve_err ps d e =
     elim (bind_err (instrs_of (starts 0 ps) 0 ps) (λ is. Ok (record { instrs = is; offsets = starts 0 ps })) d e) [ inl h ↦ h | inr a ↦ absurd (let f = a.2 in cc) ]
 
-resolve_refuses : (ps : List (RawInstr × ℕ)) (d : Refusal) → instrs_of (starts 0 ps) 0 ps ≡ Err d → resolve ps ≡ Err d
-unfolding resolve
+resolve_refuses : (ps : List (RawInstr × ℕ)) (d : Refusal) → instrs_of (starts 0 ps) 0 ps ≡ Err d → resolve_targets ps ≡ Err d
+unfolding resolve_targets
 resolve_refuses ps d e = rw e refl
 
 -- the pieces of a front
 filled : (n : ℕ) (ps : List (RawInstr × ℕ)) (b : List ℕ) → (pieces n).spells ps b → Pieces instruction ps b × (length b ≡ n)
 unfolding pieces
-filled n ps b s = let f = fill_pieces n n (blamed instruction) instruction-some (omega arith) ps b s in (unblamed ps b f.0, f.1)
+filled n ps b s = let f = fill_pieces n n (blame_first instruction) instruction-some (omega arith) ps b s in (unblamed ps b f.0, f.1)
 
 fills : (n : ℕ) (ps : List (RawInstr × ℕ)) (b : List ℕ) → Pieces instruction ps b → length b ≡ n → (pieces n).spells ps b
 unfolding pieces
-fills n ps b s len = pieces_fill n n (blamed instruction) instruction-some (omega arith) ps b (blamed_pieces ps b s) len
+fills n ps b s len = pieces_fill n n (blame_first instruction) instruction-some (omega arith) ps b (blamed_pieces ps b s) len
 
-piece_refused : (n : ℕ) (from : At) (r : Refusal) → from.place ≤ limit → (pieces n).bad from r → BadPiece n (blamed instruction) from r
+piece_refused : (n : ℕ) (from : At) (r : Refusal) → from.place ≤ limit → (pieces n).bad from r → BadPiece n (blame_first instruction) from r
 unfolding pieces
-piece_refused n from r k h = fill_bad n n (blamed instruction) from r k instruction-some (omega arith) h
+piece_refused n from r k h = fill_bad n n (blame_first instruction) from r k instruction-some (omega arith) h
 
-piece_refuses : (n : ℕ) (from : At) (r : Refusal) → BadPiece n (blamed instruction) from r → (pieces n).bad from r
+piece_refuses : (n : ℕ) (from : At) (r : Refusal) → BadPiece n (blame_first instruction) from r → (pieces n).bad from r
 unfolding pieces
-piece_refuses n from r h = bad_fill n n (blamed instruction) from r instruction-some (omega arith) h
+piece_refuses n from r h = bad_fill n n (blame_first instruction) from r instruction-some (omega arith) h
 
 module _ (n : ℕ) where
-  plain : Exact (refined resolve (pieces n))
-  plain = refined-exact resolve (pieces n) (pieces-exact n)
+  plain : Exact (map_or_refuse resolve_targets (pieces n))
+  plain = refined-exact resolve_targets (pieces n) (pieces-exact n)
 
   code_body_found : (from : At) (c : Code) (after : At) → from.place ≤ limit → (code_body n).reads from ≡ Ok (c, after) → Begins (code_body n) from c after
   unfolding code_body
@@ -87,7 +87,7 @@ module _ (n : ℕ) where
   unfolding code_body
   code_body_again from c after b =
       let s = b.spelled.0 in
-      let r : resolve s.pieces ≡ Ok c = resolve_again s.pieces c (means_again s.pieces (all_long s.pieces b.front s.filled) 0 s.pieces c.instrs s.means) (starts_same s.pieces c.offsets s.offsets) in
+      let r : resolve_targets s.pieces ≡ Ok c = resolve_again s.pieces c (means_again s.pieces (all_long s.pieces b.front s.filled) 0 s.pieces c.instrs s.means) (starts_same s.pieces c.offsets s.offsets) in
       plain.again from c after (record { front = b.front; spelled = (s.pieces, fills n s.pieces b.front s.filled b.spelled.1, r); is = b.is })
 
   code_body_refused : (from : At) (r : Refusal) → from.place ≤ limit → (code_body n).reads from ≡ Err r → (code_body n).bad from r
@@ -108,7 +108,7 @@ module _ (n : ℕ) where
       elim b [
         | inl h ↦ plain.refuses from r (inl (piece_refuses n from r h))
         | inr a ↦
-            let e : resolve a.pieces ≡ Err (refusal a.offset reasons.Target) = resolve_refuses a.pieces (refusal a.offset reasons.Target) (misses_again a.pieces (all_long a.pieces a.front a.filled) 0 a.pieces a.offset a.misses) in
+            let e : resolve_targets a.pieces ≡ Err (refusal a.offset reasons.Target) = resolve_refuses a.pieces (refusal a.offset reasons.Target) (misses_again a.pieces (all_long a.pieces a.front a.filled) 0 a.pieces a.offset a.misses) in
             plain.refuses from r (inr (a.pieces, a.after, record { front = a.front; spelled = fills n a.pieces a.front a.filled a.full; is = a.is }, refusal a.offset reasons.Target, e, a.says))
       ]
 

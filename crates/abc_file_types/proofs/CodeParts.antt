@@ -1,18 +1,18 @@
 -- The parts of code are exact.
 use Rattle.std.proofs.Common.{ℕ, ◌+◌, ◌≤◌, List, length, length-append, ap, arith}
 use Rattle.abc_file_types.specs.Law.{Exact}
-use Rattle.abc_file_types.specs.Ends.{IsNonEmpty, blamed}
+use Rattle.abc_file_types.specs.Ends.{IsNonEmpty, blame_first}
 use Rattle.abc_file_types.specs.Numbers.{u8}
 use Rattle.abc_file_types.proofs.Exact.{image-exact, both-exact, checked-exact, then-exact, done-exact, times-exact}
 use Rattle.abc_file_types.proofs.Numbers.{u8-exact, u30-exact, u32-exact, s24-exact}
 use Rattle.abc_file_types.proofs.Within.{blamed-exact, fill-exact}
 use Rattle.abc_file_types.specs.declared.opcodes.Form.{Form}
 use Rattle.abc_file_types.specs.declared.opcodes.Form.TheVariants as forms
-use Rattle.abc_file_types.specs.Instructions.{RawInstr, opcode, signed_byte, signed_short, switch_offsets, operands, instruction, pieces, code_length}
+use Rattle.abc_file_types.specs.Instructions.{RawInstr, opcode_part, signed_byte, signed_short, switch_offsets, operand_parts, instruction, pieces, code_length}
 use Rattle.abc_file_types.specs.Places.{instruction_place}
 
-opcode-exact : Exact opcode
-unfolding opcode
+opcode-exact : Exact opcode_part
+unfolding opcode_part
 opcode-exact = image-exact _ _ (checked-exact _ _ _ u8-exact)
 
 signed_byte-exact : Exact signed_byte
@@ -27,7 +27,7 @@ switch_offsets-exact : Exact switch_offsets
 unfolding switch_offsets
 switch_offsets-exact = both-exact _ _ s24-exact (then-exact _ _ u30-exact (λ c. times-exact (c + 1) _ s24-exact))
 
-operands-exact : (op : ℕ) (form : Form) → Exact (operands op form)
+operands-exact : (op : ℕ) (form : Form) → Exact (operand_parts op form)
 operands-exact op forms.Plain = done-exact _
 operands-exact op forms.One = image-exact _ _ u30-exact
 operands-exact op forms.Two = image-exact _ _ (both-exact _ _ u30-exact u30-exact)
@@ -38,20 +38,20 @@ operands-exact op forms.Short = image-exact _ _ signed_short-exact
 operands-exact op forms.ScopeObject = image-exact _ _ u8-exact
 operands-exact op forms.Debug = image-exact _ _ (both-exact _ _ u8-exact (both-exact _ _ u30-exact (both-exact _ _ u8-exact u30-exact)))
 
-pub instruction-exact : Exact (blamed instruction)
+pub instruction-exact : Exact (blame_first instruction)
 unfolding instruction
 instruction-exact = blamed-exact _ (image-exact _ _ (then-exact _ _ opcode-exact (λ o. operands-exact o.0 o.1)))
 
 has_opcode : (x : RawInstr) (b : List ℕ) → instruction.spells x b → 1 ≤ length b
-unfolding instruction opcode u8
+unfolding instruction opcode_part u8
 has_opcode x b s = omega (arith, ap length s.1.2, length-append s.1.0 s.1.1, ap length s.1.3.1.0)
 
-pub instruction-some : IsNonEmpty (blamed instruction)
+pub instruction-some : IsNonEmpty (blame_first instruction)
 instruction-some = record { some = has_opcode }
 
 pub pieces-exact : (n : ℕ) → Exact (pieces n)
 unfolding pieces
-pieces-exact n = fill-exact n n (blamed instruction) instruction-exact
+pieces-exact n = fill-exact n n (blame_first instruction) instruction-exact
 
 pub code_length-exact : Exact code_length
 unfolding code_length

@@ -21,15 +21,15 @@ use Rattle.abc_file_types.proofs.Least.{short-canonical}
 use Rattle.abc_file_types.proofs.Lesser.{halves, no_greater_append}
 use Rattle.abc_file_types.specs.declared.opcodes.Form.{Form}
 use Rattle.abc_file_types.specs.declared.opcodes.Form.TheVariants as forms
-use Rattle.abc_file_types.specs.Instructions.{RawInstr, Same, Branch, Switch, opcode, signed_byte, signed_short, switch_offsets, operands, instruction, code_length}
+use Rattle.abc_file_types.specs.Instructions.{RawInstr, Same, Branch, Switch, opcode_part, signed_byte, signed_short, switch_offsets, operand_parts, instruction, code_length}
 use Rattle.abc_file_types.specs.declared.code.Instr.{Instr}
 use Rattle.abc_file_types.specs.declared.code.Instr.TheVariants as instrs
 use Rattle.abc_file_types.specs.declared.instructions.Code.{Code}
-use Rattle.abc_file_types.specs.Opcodes.{branches, form_at, form_in, form_of, info_at, info_if, is_in, name_in, named, one_operand, two_operands}
+use Rattle.abc_file_types.specs.Opcodes.{branches, form_at, form_in, form_of, info_at, info_if, is_in, name_in, names_of_opcodes, one_operand, two_operands}
 use Rattle.abc_file_types.specs.Starts.{starts, size, start}
 use Rattle.abc_file_types.specs.Code.{IsTarget, AreTargets, Means, MeansAll, SpellsCode, code_body, code, code_listing}
 use Rattle.abc_file_types.specs.Ready.{AllUpTo, CanSpell, AllCanSpell, Small, IsReady}
-use Rattle.abc_file_types.specs.CodeBytes.{instr_len, sized, offset, instr_bytes, instrs_bytes, canonical_starts, code_len, code_bytes}
+use Rattle.abc_file_types.specs.CodeBytes.{instr_len, with_lengths, offset, instr_bytes, instrs_bytes, canonical_starts, code_len, code_bytes}
 use Rattle.abc_file_types.proofs.Meaning.{starts_from, starts_same}
 use Rattle.abc_file_types.proofs.Resolving.{length-starts}
 
@@ -101,7 +101,7 @@ short_spelled z low high =
 
 -- ---- the operands of a form
 
-operands_can : (ps : List (RawInstr × ℕ)) (here next op : ℕ) (form : Form) (raw : RawInstr) (b : List ℕ) (i : Instr) → form_at op ≡ Some form → (operands op form).spells raw b → Means ps here next raw i → CanSpell (length ps) i × (instr_len i ≤ suc (length b))
+operands_can : (ps : List (RawInstr × ℕ)) (here next op : ℕ) (form : Form) (raw : RawInstr) (b : List ℕ) (i : Instr) → form_at op ≡ Some form → (operand_parts op form).spells raw b → Means ps here next raw i → CanSpell (length ps) i × (instr_len i ≤ suc (length b))
 unfolding switch_offsets signed_byte signed_short u8
 operands_can ps here next op forms.Plain raw b i f s m =
     let e : i ≡ instrs.Plain op = subst (λ (r : RawInstr). Means ps here next r i) s.0 m in
@@ -159,7 +159,7 @@ operands_can ps here next op forms.Debug raw b i f s m =
     rw e ((h.0, k.0), omega (arith, h.1, k.1, ap length t.2, length-append t.0 t.1, ap length t.3, ap length u.2, length-append u.0 u.1, ap length v.2, length-append v.0 v.1, ap length v.3))
 
 pub piece_can : (ps : List (RawInstr × ℕ)) (here next : ℕ) (raw : RawInstr) (b : List ℕ) (i : Instr) → instruction.spells raw b → Means ps here next raw i → CanSpell (length ps) i × (instr_len i ≤ length b)
-unfolding instruction opcode u8
+unfolding instruction opcode_part u8
 piece_can ps here next raw b i s m =
     let o = s.0.0 in
     let t = s.1 in
@@ -197,7 +197,7 @@ abbrev pub raws_of : List ℕ → ℕ → List Instr → List (RawInstr × ℕ)
 raws_of ss here [] = []
 raws_of ss here (i ∷ is) = (raw_of ss here (here + instr_len i) i, instr_len i) ∷ raws_of ss (here + instr_len i) is
 
-raws_starts : (ss : List ℕ) (here at : ℕ) (is : List Instr) → starts at (raws_of ss here is) ≡ starts at (sized is)
+raws_starts : (ss : List ℕ) (here at : ℕ) (is : List Instr) → starts at (raws_of ss here is) ≡ starts at (with_lengths is)
 raws_starts ss here at [] = refl
 raws_starts ss here at (i ∷ is) = ap (λ (l : List ℕ). at ∷ l) (raws_starts ss (here + instr_len i) (at + instr_len i) is)
 
@@ -205,7 +205,7 @@ raws_length : (ss : List ℕ) (here : ℕ) (is : List Instr) → length (raws_of
 raws_length ss here [] = refl
 raws_length ss here (i ∷ is) = ap suc (raws_length ss (here + instr_len i) is)
 
-sized_length : (is : List Instr) → length (sized is) ≡ length is
+sized_length : (is : List Instr) → length (with_lengths is) ≡ length is
 sized_length [] = refl
 sized_length (i ∷ is) = ap suc (sized_length is)
 
@@ -244,8 +244,8 @@ bytes_len ss here next (instrs.ScopeObject x) = refl
 bytes_len ss here next (instrs.Debug kind name reg extra) = omega (arith, length-append (number_bytes name) (reg ∷ number_bytes extra))
 
 -- an opcode and its operands
-opcode_spelled : (op : ℕ) (form : Form) (raw : RawInstr) (b : List ℕ) → form_at op ≡ Some form → (operands op form).spells raw b → instruction.spells raw (op ∷ b)
-unfolding instruction opcode u8
+opcode_spelled : (op : ℕ) (form : Form) (raw : RawInstr) (b : List ℕ) → form_at op ≡ Some form → (operand_parts op form).spells raw b → instruction.spells raw (op ∷ b)
+unfolding instruction opcode_part u8
 opcode_spelled op form raw b f s =
     let yes : is_some (form_at op) ≡ true = rw f refl in
     let same : form ≡ unwrap_or (form_at op) forms.Plain = rw f refl in
@@ -371,7 +371,7 @@ form_known None op form e = absurd cc
 one_opcode : (op : ℕ) (form : Form) → form_at op ≡ Some form → Says form (nat_eq op 0x1b) (nat_eq op 0x24) (nat_eq op 0x25) (nat_eq op 0x65) (nat_eq op 0xef)
 unfolding form_at info_at
 one_opcode op form e =
-    let is : form_of op ≡ form = form_known (name_in named op) op form e in
+    let is : form_of op ≡ form = form_known (name_in names_of_opcodes op) op form e in
     subst (λ (f : Form). Says f (nat_eq op 0x1b) (nat_eq op 0x24) (nat_eq op 0x25) (nat_eq op 0x65) (nat_eq op 0xef)) is
     (form_says (is_in op one_operand) (is_in op two_operands) (is_in op branches) (nat_eq op 0x1b) (nat_eq op 0x24) (nat_eq op 0x25) (nat_eq op 0x65) (nat_eq op 0xef))
 
@@ -431,7 +431,7 @@ module _ (ps : List (RawInstr × ℕ)) (ss : List ℕ) (same : (t : ℕ) → t �
   offsets_are base (z ∷ zs) [] h = absurd h
   offsets_are base (z ∷ zs) (t ∷ ts) h = rw (offset_is base z t h.0, offsets_are base zs ts h.1) refl
 
-  operands_least : (here next op : ℕ) (form : Form) (raw : RawInstr) (b : List ℕ) (i : Instr) → form_at op ≡ Some form → (operands op form).spells raw b → Means ps here next raw i
+  operands_least : (here next op : ℕ) (form : Form) (raw : RawInstr) (b : List ℕ) (i : Instr) → form_at op ≡ Some form → (operand_parts op form).spells raw b → Means ps here next raw i
       → length (instr_bytes ss here next i) ≡ suc (length b) → NoGreater (instr_bytes ss here next i) (op ∷ b)
   unfolding u8
   operands_least here next op forms.Plain raw b i f s m len =
@@ -478,7 +478,7 @@ module _ (ps : List (RawInstr × ℕ)) (ss : List ℕ) (same : (t : ℕ) → t �
 
   piece_least : (here next : ℕ) (raw : RawInstr) (b : List ℕ) (i : Instr) → instruction.spells raw b → Means ps here next raw i → length (instr_bytes ss here next i) ≡ length b
       → NoGreater (instr_bytes ss here next i) b
-  unfolding instruction opcode u8
+  unfolding instruction opcode_part u8
   piece_least here next raw b i s m len =
       let o = s.0.0 in
       let t = s.1 in
@@ -503,7 +503,7 @@ module _ (ps : List (RawInstr × ℕ)) (ss : List ℕ) (same : (t : ℕ) → t �
       rw s.2 (no_greater_append (instr_bytes ss here next i) (instrs_bytes ss next is) s.0 s.1 one more)
 
 same_starts : (ps : List (RawInstr × ℕ)) (here at : ℕ) (xs : List (RawInstr × ℕ)) (b : List ℕ) (is : List Instr) → Pieces instruction xs b → MeansAll ps here xs is → code_len is ≡ length b
-    → starts at xs ≡ starts at (sized is)
+    → starts at xs ≡ starts at (with_lengths is)
 same_starts ps here at [] b [] s m len = refl
 same_starts ps here at [] b (i ∷ is) s m len = absurd m
 same_starts ps here at (x ∷ xs) b [] s m len = absurd m
@@ -511,7 +511,7 @@ same_starts ps here at (x ∷ xs) b (i ∷ is) s m len =
     let h = filled_so ps here x xs b i is s m len in
     let next : x.1 ≡ instr_len i = s.4 ∙ sym h.0 in
     let more = same_starts ps (here + x.1) (at + x.1) xs s.1 is s.5 m.1 h.1 in
-    ap (λ (l : List ℕ). at ∷ l) (more ∙ ap (λ (n : ℕ). starts (at + n) (sized is)) next)
+    ap (λ (l : List ℕ). at ∷ l) (more ∙ ap (λ (n : ℕ). starts (at + n) (with_lengths is)) next)
 
 -- code that fills no more bytes than its canonical bytes has its starts where they have them
 pub offsets_canonical : (c : Code) (b : List ℕ) → SpellsCode c b → code_len c.instrs ≡ length b → c.offsets ≡ canonical_starts c.instrs
@@ -521,18 +521,18 @@ offsets_canonical c b s len = starts_same s.pieces c.offsets s.offsets ∙ same_
 body_least : (c : Code) (b : List ℕ) → SpellsCode c b → code_len c.instrs ≡ length b → NoGreater (instrs_bytes (canonical_starts c.instrs) 0 c.instrs) b
 unfolding canonical_starts
 body_least c b s len =
-    let eq : starts 0 s.pieces ≡ starts 0 (sized c.instrs) = same_starts s.pieces 0 0 s.pieces b c.instrs s.filled s.means len in
-    all_least s.pieces (starts 0 (sized c.instrs)) (λ t le. ap (λ (l : List ℕ). get_or l t 0) (sym eq) ∙ starts_from s.pieces t le) 0 s.pieces b c.instrs s.filled s.means len
+    let eq : starts 0 s.pieces ≡ starts 0 (with_lengths c.instrs) = same_starts s.pieces 0 0 s.pieces b c.instrs s.filled s.means len in
+    all_least s.pieces (starts 0 (with_lengths c.instrs)) (λ t le. ap (λ (l : List ℕ). get_or l t 0) (sym eq) ∙ starts_from s.pieces t le) 0 s.pieces b c.instrs s.filled s.means len
 
 -- ---- the whole
 
 pub canonical_body : (is : List Instr) → AllCanSpell (length is) is → code_len is < 2 ^ 23 → SpellsCode (record { instrs = is; offsets = canonical_starts is }) (instrs_bytes (canonical_starts is) 0 is)
 unfolding canonical_starts
 canonical_body is c lt =
-    let ss = starts 0 (sized is) in
+    let ss = starts 0 (with_lengths is) in
     let qs = raws_of ss 0 is in
-    let from : (t : ℕ) → t ≤ length is → get_or ss t 0 ≡ start (sized is) t = λ t le. starts_from (sized is) t (omega (arith, sized_length is)) in
-    let small : (t : ℕ) → t ≤ length is → get_or ss t 0 < 2 ^ 23 = λ t le. omega (arith, from t le, start_small (sized is) t) in
+    let from : (t : ℕ) → t ≤ length is → get_or ss t 0 ≡ start (with_lengths is) t = λ t le. starts_from (with_lengths is) t (omega (arith, sized_length is)) in
+    let small : (t : ℕ) → t ≤ length is → get_or ss t 0 < 2 ^ 23 = λ t le. omega (arith, from t le, start_small (with_lengths is) t) in
     let eq : starts 0 qs ≡ ss = raws_starts ss 0 0 is in
     let same : (t : ℕ) → t ≤ length is → get_or ss t 0 ≡ start qs t = λ t le. ap (λ (l : List ℕ). get_or l t 0) (sym eq) ∙ starts_from qs t (omega (arith, raws_length ss 0 is)) in
     record {

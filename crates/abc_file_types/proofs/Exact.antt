@@ -5,7 +5,7 @@ use Rattle.std.proofs.lemmas.Bool.{cases_lt}
 use Rattle.abc_file_types.specs.declared.reason.Reason.{Reason}
 use Rattle.abc_file_types.specs.Law.{Exact}
 use Rattle.abc_file_types.specs.Lists.{chain, times}
-use Rattle.abc_file_types.specs.Part.{At, Begins, Front, Part, Refusal, both, checked, done, further, image, limit, moved, refined, refusal, then_by, ◌>>=◌}
+use Rattle.abc_file_types.specs.Part.{At, Begins, Front, Part, Refusal, both, with_test, known_value, further, image, limit, at_offset, map_or_refuse, refusal, then_by, ◌>>=◌}
 
 pub bind_ok : {A B : Type 0} (r : Result A Refusal) (f : A → Result B Refusal) (y : B) → (r >>= f) ≡ Ok y → (x : A) × (r ≡ Ok x) × (f x ≡ Ok y)
 bind_ok (Ok x) f y e = (x, refl, e)
@@ -44,12 +44,12 @@ Front-second a x y c f = record { parts = refl; place = omega (arith, f.place, l
 -- ---- done
 
 module _ {A : Type 0} (x : A) where
-  done_found : (from : At) (y : A) (after : At) → from.place ≤ limit → (done x).reads from ≡ Ok (y, after) → Begins (done x) from y after
+  done_found : (from : At) (y : A) (after : At) → from.place ≤ limit → (known_value x).reads from ≡ Ok (y, after) → Begins (known_value x) from y after
   done_found from y after k e =
       let made : A × At = (x, from) in
-      subst (λ (z : A × At). Begins (done x) from z.0 z.1) (ok_is made (y, after) e) (record { front = []; spelled = (refl, refl); is = record { parts = refl; place = omega arith; room = k; same = refl; within = λ h. absurd (omega arith) } })
+      subst (λ (z : A × At). Begins (known_value x) from z.0 z.1) (ok_is made (y, after) e) (record { front = []; spelled = (refl, refl); is = record { parts = refl; place = omega arith; room = k; same = refl; within = λ h. absurd (omega arith) } })
 
-  done_again : (from : At) (y : A) (after : At) → Begins (done x) from y after → (done x).reads from ≡ Ok (y, after)
+  done_again : (from : At) (y : A) (after : At) → Begins (known_value x) from y after → (known_value x).reads from ≡ Ok (y, after)
   done_again from y after b =
       let none : Front from [] after = subst (λ (l : List ℕ). Front from l after) b.spelled.1 b.is in
       let same : from.place ≡ after.place = omega (arith, none.place) in
@@ -57,7 +57,7 @@ module _ {A : Type 0} (x : A) where
       let all : further from from.place from.bytes ≡ further after after.place after.bytes = rw (same, none.parts, none.same) refl in
       rw is (ap (λ (z : At). fine (y, z)) all)
 
-  pub done-exact : Exact (done x)
+  pub done-exact : Exact (known_value x)
   done-exact = record { found = done_found; again = done_again; refused = λ from r k e. absurd cc; refuses = λ from r b. absurd b }
 
 -- ---- one after the other
@@ -144,27 +144,27 @@ guard_err true x d r e = absurd cc
 guard_err false x d r e = (refl, cc)
 
 module _ {A : Type 0} (test : A → Bool) (reason : Reason) (p : Part A) (ep : Exact p) where
-  checked_found : (from : At) (x : A) (after : At) → from.place ≤ limit → (checked test reason p).reads from ≡ Ok (x, after) → Begins (checked test reason p) from x after
+  checked_found : (from : At) (x : A) (after : At) → from.place ≤ limit → (with_test test reason p).reads from ≡ Ok (x, after) → Begins (with_test test reason p) from x after
   checked_found from x after k e =
       let a = bind_ok (p.reads from) (λ x. cond (test x.0) (Ok x) (Err (refusal from.place reason))) (x, after) e in
       let g = guard_ok (test a.0.0) a.0 (x, after) (refusal from.place reason) a.2 in
       let one = ep.found from a.0.0 a.0.1 k a.1 in
-      subst (λ (z : A × At). Begins (checked test reason p) from z.0 z.1) g.1 (record { front = one.front; spelled = (one.spelled, g.0); is = one.is })
+      subst (λ (z : A × At). Begins (with_test test reason p) from z.0 z.1) g.1 (record { front = one.front; spelled = (one.spelled, g.0); is = one.is })
 
-  checked_again : (from : At) (x : A) (after : At) → Begins (checked test reason p) from x after → (checked test reason p).reads from ≡ Ok (x, after)
+  checked_again : (from : At) (x : A) (after : At) → Begins (with_test test reason p) from x after → (with_test test reason p).reads from ≡ Ok (x, after)
   checked_again from x after b =
       let one : p.reads from ≡ Ok (x, after) = ep.again from x after (record { front = b.front; spelled = b.spelled.0; is = b.is }) in
       let yes : test x ≡ true = b.spelled.1 in
       rw (one, yes) refl
 
-  checked_refused : (from : At) (r : Refusal) → from.place ≤ limit → (checked test reason p).reads from ≡ Err r → (checked test reason p).bad from r
+  checked_refused : (from : At) (r : Refusal) → from.place ≤ limit → (with_test test reason p).reads from ≡ Err r → (with_test test reason p).bad from r
   checked_refused from r k e =
       elim (bind_err (p.reads from) (λ x. cond (test x.0) (Ok x) (Err (refusal from.place reason))) r e) [
         | inl h ↦ inl (ep.refused from r k h)
         | inr a ↦ let g = guard_err (test a.0.0) a.0 (refusal from.place reason) r a.2 in inr (a.0.0, a.0.1, ep.found from a.0.0 a.0.1 k a.1, g.0, g.1)
       ]
 
-  checked_refuses : (from : At) (r : Refusal) → (checked test reason p).bad from r → (checked test reason p).reads from ≡ Err r
+  checked_refuses : (from : At) (r : Refusal) → (with_test test reason p).bad from r → (with_test test reason p).reads from ≡ Err r
   checked_refuses from r b =
       elim b [
         | inl h ↦ let e = ep.refuses from r h in rw e refl
@@ -174,7 +174,7 @@ module _ {A : Type 0} (test : A → Bool) (reason : Reason) (p : Part A) (ep : E
             rw (one, no) (ap (λ (z : Refusal). Err z) (sym a.4))
       ]
 
-  pub checked-exact : Exact (checked test reason p)
+  pub checked-exact : Exact (with_test test reason p)
   checked-exact = record { found = checked_found; again = checked_again; refused = checked_refused; refuses = checked_refuses }
 
 -- ---- many
@@ -185,39 +185,39 @@ times-exact (suc n) p ep = image-exact (λ x. x.0 ∷ x.1) (both p (times n p)) 
 
 -- ---- a value that is looked into
 
-moved_ok : {B : Type 0} (place : ℕ) (a : At) (r : Result B Refusal) (y : B) (after : At) → moved place a r ≡ Ok (y, after) → (r ≡ Ok y) × (a ≡ after)
+moved_ok : {B : Type 0} (place : ℕ) (a : At) (r : Result B Refusal) (y : B) (after : At) → at_offset place a r ≡ Ok (y, after) → (r ≡ Ok y) × (a ≡ after)
 moved_ok {B = B} place a (Ok z) y after e =
     let left : B × At = (z, a) in
     let right : B × At = (y, after) in
     let p = ok_is left right e in (ap (λ (w : B × At). Ok w.0) p, ap (λ (w : B × At). w.1) p)
 moved_ok place a (Err d) y after e = absurd cc
 
-moved_err : {B : Type 0} (place : ℕ) (a : At) (res : Result B Refusal) (r : Refusal) → moved place a res ≡ Err r → (d : Refusal) × (res ≡ Err d) × (r ≡ refusal (place + d.place) d.reason)
+moved_err : {B : Type 0} (place : ℕ) (a : At) (res : Result B Refusal) (r : Refusal) → at_offset place a res ≡ Err r → (d : Refusal) × (res ≡ Err d) × (r ≡ refusal (place + d.place) d.reason)
 moved_err place a (Ok z) r e = absurd cc
 moved_err place a (Err d) r e = (d, refl, cc)
 
 module _ {A B : Type 0} (f : A → Result B Refusal) (p : Part A) (ep : Exact p) where
-  refined_found : (from : At) (y : B) (after : At) → from.place ≤ limit → (refined f p).reads from ≡ Ok (y, after) → Begins (refined f p) from y after
+  refined_found : (from : At) (y : B) (after : At) → from.place ≤ limit → (map_or_refuse f p).reads from ≡ Ok (y, after) → Begins (map_or_refuse f p) from y after
   refined_found from y after k e =
-      let a = bind_ok (p.reads from) (λ x. moved from.place x.1 (f x.0)) (y, after) e in
+      let a = bind_ok (p.reads from) (λ x. at_offset from.place x.1 (f x.0)) (y, after) e in
       let m = moved_ok from.place a.0.1 (f a.0.0) y after a.2 in
       let one = ep.found from a.0.0 a.0.1 k a.1 in
-      subst (λ (z : At). Begins (refined f p) from y z) m.1 (record { front = one.front; spelled = (a.0.0, one.spelled, m.0); is = one.is })
+      subst (λ (z : At). Begins (map_or_refuse f p) from y z) m.1 (record { front = one.front; spelled = (a.0.0, one.spelled, m.0); is = one.is })
 
-  refined_again : (from : At) (y : B) (after : At) → Begins (refined f p) from y after → (refined f p).reads from ≡ Ok (y, after)
+  refined_again : (from : At) (y : B) (after : At) → Begins (map_or_refuse f p) from y after → (map_or_refuse f p).reads from ≡ Ok (y, after)
   refined_again from y after b =
       let one : p.reads from ≡ Ok (b.spelled.0, after) = ep.again from b.spelled.0 after (record { front = b.front; spelled = b.spelled.1; is = b.is }) in
       let yes : f b.spelled.0 ≡ Ok y = b.spelled.2 in
       rw (one, yes) refl
 
-  refined_refused : (from : At) (r : Refusal) → from.place ≤ limit → (refined f p).reads from ≡ Err r → (refined f p).bad from r
+  refined_refused : (from : At) (r : Refusal) → from.place ≤ limit → (map_or_refuse f p).reads from ≡ Err r → (map_or_refuse f p).bad from r
   refined_refused from r k e =
-      elim (bind_err (p.reads from) (λ x. moved from.place x.1 (f x.0)) r e) [
+      elim (bind_err (p.reads from) (λ x. at_offset from.place x.1 (f x.0)) r e) [
         | inl h ↦ inl (ep.refused from r k h)
         | inr a ↦ let m = moved_err from.place a.0.1 (f a.0.0) r a.2 in inr (a.0.0, a.0.1, ep.found from a.0.0 a.0.1 k a.1, m.0, m.1, m.2)
       ]
 
-  refined_refuses : (from : At) (r : Refusal) → (refined f p).bad from r → (refined f p).reads from ≡ Err r
+  refined_refuses : (from : At) (r : Refusal) → (map_or_refuse f p).bad from r → (map_or_refuse f p).reads from ≡ Err r
   refined_refuses from r b =
       elim b [
         | inl h ↦ let e = ep.refuses from r h in rw e refl
@@ -227,7 +227,7 @@ module _ {A B : Type 0} (f : A → Result B Refusal) (p : Part A) (ep : Exact p)
             rw (one, no) (ap (λ (z : Refusal). Err z) (sym a.5))
       ]
 
-  pub refined-exact : Exact (refined f p)
+  pub refined-exact : Exact (map_or_refuse f p)
   refined-exact = record { found = refined_found; again = refined_again; refused = refined_refused; refuses = refined_refuses }
 
 pub chain-exact : {A : Type 0} (n : ℕ) (p : List A → Part A) (before : List A) → ((xs : List A) → Exact (p xs)) → Exact (chain n p before)

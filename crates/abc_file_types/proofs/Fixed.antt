@@ -8,7 +8,7 @@ use Rattle.std.proofs.lemmas.Bool.{cases_lt, le-ltb, lt-ltb}
 use Rattle.abc_base.specs.Numbers.{number_bytes, signed24}
 use Rattle.abc_file_types.specs.Canonical.{FitsS24, IsCanonical, NoGreater, counted_bytes, low24, s24_bytes, text_bytes, u16_bytes}
 use Rattle.abc_file_types.specs.Law.{Exact}
-use Rattle.abc_file_types.specs.Lists.{text}
+use Rattle.abc_file_types.specs.Lists.{bytes_with_count}
 use Rattle.abc_file_types.specs.Numbers.{s24, u16, u8}
 use Rattle.abc_file_types.proofs.Canon.{counted-canonical, s24_fits, s24_length, s24_three, same-canonical, u8-canonical}
 use Rattle.abc_file_types.proofs.Numbers.{counted-exact, u8-exact}
@@ -92,10 +92,10 @@ pub each_byte : (b : List ℕ) → flat_map (λ x. x ∷ []) b ≡ b
 each_byte [] = refl
 each_byte (x ∷ b) = rw flat_map-cons (ap (λ (t : List ℕ). x ∷ t) (each_byte b))
 
-pub text-exact : Exact text
-unfolding text
+pub text-exact : Exact bytes_with_count
+unfolding bytes_with_count
 text-exact = counted-exact u8 u8-exact
 
-pub text-canonical : IsCanonical text text_bytes
-unfolding text text_bytes counted_bytes
+pub text-canonical : IsCanonical bytes_with_count text_bytes
+unfolding bytes_with_count text_bytes counted_bytes
 text-canonical = same-canonical _ (counted_bytes (λ x. x ∷ [])) _ (λ b. ap (λ (t : List ℕ). number_bytes (length b) ++ t) (each_byte b)) (counted-canonical u8 (λ x. x ∷ []) u8-canonical)

@@ -7,7 +7,7 @@ use Rattle.std.proofs.lemmas.List.{take_all, take_more, append-nil}
 use Rattle.abc_base.specs.Numbers.{groups_of, number_bytes}
 use Rattle.abc_file_types.specs.declared.code.Instr.{Instr}
 use Rattle.abc_file_types.specs.Starts.{size, start}
-use Rattle.abc_file_types.specs.CodeBytes.{instr_len, sized, instr_bytes, instrs_bytes, canonical_starts, code_len}
+use Rattle.abc_file_types.specs.CodeBytes.{instr_len, with_lengths, instr_bytes, instrs_bytes, canonical_starts, code_len}
 use Rattle.abc_file_types.specs.Ready.{AllUpTo, CanSpell, AllCanSpell, Small}
 use Rattle.abc_file_types.proofs.Resolving.{drop_read, length-starts}
 use Rattle.abc_file_types.proofs.Meaning.{starts_from}
@@ -42,7 +42,7 @@ number_five x ge =
 
 -- ---- lengths of instructions
 
-pub start_step : (is : List Instr) (i n here : ℕ) (x : Instr) → i < length is → i < n → x ≡ get_or is i x → here + start (sized (drop i is)) (n - i) ≡ here + instr_len x + start (sized (drop (i + 1) is)) (n - (i + 1))
+pub start_step : (is : List Instr) (i n here : ℕ) (x : Instr) → i < length is → i < n → x ≡ get_or is i x → here + start (with_lengths (drop i is)) (n - i) ≡ here + instr_len x + start (with_lengths (drop (i + 1) is)) (n - (i + 1))
 start_step is i n here x lt more e =
     let k : n - i ≡ suc (n - (i + 1)) = omega arith in
     let d = drop_read is i x lt e in
@@ -101,26 +101,26 @@ put_more ss old mid new is i here next x lt e m h n g =
 
 -- ---- the starts of code that is ready
 
-sized_length : (is : List Instr) → length (sized is) ≡ length is
+sized_length : (is : List Instr) → length (with_lengths is) ≡ length is
 sized_length [] = refl
 sized_length (i ∷ is) = ap suc (sized_length is)
 
 pub canonical_count : (is : List Instr) → length (canonical_starts is) ≡ suc (length is)
 unfolding canonical_starts
-canonical_count is = length-starts 0 (sized is) ∙ ap suc (sized_length is)
+canonical_count is = length-starts 0 (with_lengths is) ∙ ap suc (sized_length is)
 
 pub canonical_small : (is : List Instr) → code_len is < 2 ^ 23 → Small (canonical_starts is) (length is)
 unfolding canonical_starts
-canonical_small is lt = λ t le. omega (arith, starts_from (sized is) t (omega (arith, sized_length is)), start_small (sized is) t)
+canonical_small is lt = λ t le. omega (arith, starts_from (with_lengths is) t (omega (arith, sized_length is)), start_small (with_lengths is) t)
 
-take_sized : (is : List Instr) (t : ℕ) → take t (sized is) ≡ sized (take t is)
+take_sized : (is : List Instr) (t : ℕ) → take t (with_lengths is) ≡ with_lengths (take t is)
 take_sized is zero = refl
 take_sized [] (suc t) = refl
 take_sized (i ∷ is) (suc t) = ap (λ s. (i, instr_len i) ∷ s) (take_sized is t)
 
 pub canonical_start : (is : List Instr) (t : ℕ) → t ≤ length is → get_or (canonical_starts is) t 0 ≡ code_len (take t is)
 unfolding canonical_starts
-canonical_start is t le = starts_from (sized is) t (omega (arith, sized_length is)) ∙ ap size (take_sized is t)
+canonical_start is t le = starts_from (with_lengths is) t (omega (arith, sized_length is)) ∙ ap size (take_sized is t)
 
 pub canonical_end : (is : List Instr) → get_or (canonical_starts is) (length is) 0 ≡ code_len is
 canonical_end is = canonical_start is (length is) (omega arith) ∙ ap code_len (take_all (length is) is (omega arith))

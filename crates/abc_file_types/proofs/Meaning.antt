@@ -12,7 +12,7 @@ use Rattle.abc_file_types.specs.Instructions.{RawInstr, Same, Branch, Switch}
 use Rattle.abc_file_types.specs.declared.code.Instr.{Instr}
 use Rattle.abc_file_types.specs.declared.code.Instr.TheVariants as instrs
 use Rattle.abc_file_types.specs.Starts.{starts, start, AreStarts}
-use Rattle.abc_file_types.specs.Targets.{at_start, target_of, found, cases_of, instr_of, instrs_of}
+use Rattle.abc_file_types.specs.Targets.{at_start, target_of, found_target, cases_of, instr_of, instrs_of}
 use Rattle.abc_file_types.specs.Code.{IsTarget, AreTargets, Means, MeansAll, LeadsNowhere, CasesMiss, Misses, MissesFirst}
 use Rattle.abc_file_types.proofs.Resolving.{position_is, starts_rising, length-starts}
 
@@ -38,15 +38,15 @@ pos_is a b e = cc
 some_is : (a b : ℕ) → Some a ≡ Some b → a ≡ b
 some_is a b e = cc
 
-found_some : (place : ℕ) (o : Option ℕ) (t : ℕ) → found place o ≡ Ok t → o ≡ Some t
+found_some : (place : ℕ) (o : Option ℕ) (t : ℕ) → found_target place o ≡ Ok t → o ≡ Some t
 found_some place (Some s) t e = let same : s ≡ t = cc in ap (λ (n : ℕ). Some n) same
 found_some place None t e = absurd cc
 
-found_none : (place : ℕ) (o : Option ℕ) (d : Refusal) → found place o ≡ Err d → (o ≡ None) × (d ≡ refusal place reasons.Target)
+found_none : (place : ℕ) (o : Option ℕ) (d : Refusal) → found_target place o ≡ Err d → (o ≡ None) × (d ≡ refusal place reasons.Target)
 found_none place (Some s) d e = absurd cc
 found_none place None d e = (refl, cc)
 
-nothing_found : (place : ℕ) (o : Option ℕ) → ((t : ℕ) → o ≡ Some t → ⊥) → found place o ≡ Err (refusal place reasons.Target)
+nothing_found : (place : ℕ) (o : Option ℕ) → ((t : ℕ) → o ≡ Some t → ⊥) → found_target place o ≡ Err (refusal place reasons.Target)
 nothing_found place (Some s) h = absurd (h s refl)
 nothing_found place None h = refl
 
@@ -73,18 +73,18 @@ module _ (ps : List (RawInstr × ℕ)) (all : All (λ p. 0 < p.1) ps) where
 
   -- ---- what was found is what is meant
 
-  found_ok : (place base : ℕ) (z : ℤ) (t : ℕ) → found place (target_of (starts 0 ps) base z) ≡ Ok t → IsTarget ps base z t
+  found_ok : (place base : ℕ) (z : ℤ) (t : ℕ) → found_target place (target_of (starts 0 ps) base z) ≡ Ok t → IsTarget ps base z t
   found_ok place base z t e = target_is base z t (found_some place (target_of (starts 0 ps) base z) t e)
 
-  found_again : (place base : ℕ) (z : ℤ) (t : ℕ) → IsTarget ps base z t → found place (target_of (starts 0 ps) base z) ≡ Ok t
+  found_again : (place base : ℕ) (z : ℤ) (t : ℕ) → IsTarget ps base z t → found_target place (target_of (starts 0 ps) base z) ≡ Ok t
   found_again place base z t s = let e = target_again base z t s in rw e refl
 
-  found_err : (place base : ℕ) (z : ℤ) (d : Refusal) → found place (target_of (starts 0 ps) base z) ≡ Err d → LeadsNowhere ps base z × (d ≡ refusal place reasons.Target)
+  found_err : (place base : ℕ) (z : ℤ) (d : Refusal) → found_target place (target_of (starts 0 ps) base z) ≡ Err d → LeadsNowhere ps base z × (d ≡ refusal place reasons.Target)
   found_err place base z d e =
       let n = found_none place (target_of (starts 0 ps) base z) d e in
       (λ t s. let y = target_again base z t s in let x = n.0 in absurd cc, n.1)
 
-  found_misses : (place base : ℕ) (z : ℤ) → LeadsNowhere ps base z → found place (target_of (starts 0 ps) base z) ≡ Err (refusal place reasons.Target)
+  found_misses : (place base : ℕ) (z : ℤ) → LeadsNowhere ps base z → found_target place (target_of (starts 0 ps) base z) ≡ Err (refusal place reasons.Target)
   found_misses place base z nowhere = nothing_found place (target_of (starts 0 ps) base z) (λ t e. nowhere t (target_is base z t e))
 
   -- ---- the cases of a switch
@@ -93,11 +93,11 @@ module _ (ps : List (RawInstr × ℕ)) (all : All (λ p. 0 < p.1) ps) where
   cases_ok base next [] [] e = tt
   cases_ok base next [] (t ∷ ts) e = absurd cc
   cases_ok base next (z ∷ zs) [] e =
-      let a = bind_ok (found (next - 3 * suc (length zs)) (target_of (starts 0 ps) base z)) (λ t. cases_of (starts 0 ps) base next zs >>= λ ts. Ok (t ∷ ts)) [] e in
+      let a = bind_ok (found_target (next - 3 * suc (length zs)) (target_of (starts 0 ps) base z)) (λ t. cases_of (starts 0 ps) base next zs >>= λ ts. Ok (t ∷ ts)) [] e in
       let b = bind_ok (cases_of (starts 0 ps) base next zs) (λ ts. Ok (a.0 ∷ ts)) [] a.2 in
       absurd (let f = b.2 in cc)
   cases_ok base next (z ∷ zs) (t ∷ ts) e =
-      let a = bind_ok (found (next - 3 * suc (length zs)) (target_of (starts 0 ps) base z)) (λ t. cases_of (starts 0 ps) base next zs >>= λ ts. Ok (t ∷ ts)) (t ∷ ts) e in
+      let a = bind_ok (found_target (next - 3 * suc (length zs)) (target_of (starts 0 ps) base z)) (λ t. cases_of (starts 0 ps) base next zs >>= λ ts. Ok (t ∷ ts)) (t ∷ ts) e in
       let b = bind_ok (cases_of (starts 0 ps) base next zs) (λ ts. Ok (a.0 ∷ ts)) (t ∷ ts) a.2 in
       let f = b.2 in
       let same : a.0 ≡ t = cc in
@@ -116,7 +116,7 @@ module _ (ps : List (RawInstr × ℕ)) (all : All (λ p. 0 < p.1) ps) where
   cases_err : (base next : ℕ) (zs : List ℤ) (d : Refusal) → cases_of (starts 0 ps) base next zs ≡ Err d → CasesMiss ps base next zs d.place × (d.reason ≡ reasons.Target)
   cases_err base next [] d e = absurd cc
   cases_err base next (z ∷ zs) d e =
-      elim (bind_err (found (next - 3 * suc (length zs)) (target_of (starts 0 ps) base z)) (λ t. cases_of (starts 0 ps) base next zs >>= λ ts. Ok (t ∷ ts)) d e) [
+      elim (bind_err (found_target (next - 3 * suc (length zs)) (target_of (starts 0 ps) base z)) (λ t. cases_of (starts 0 ps) base next zs >>= λ ts. Ok (t ∷ ts)) d e) [
         | inl h ↦ let m = found_err (next - 3 * suc (length zs)) base z d h in (inl (m.0, ap (λ (r : Refusal). r.place) m.1), ap (λ (r : Refusal). r.reason) m.1)
         | inr a ↦ elim (bind_err (cases_of (starts 0 ps) base next zs) (λ ts. Ok (a.0 ∷ ts)) d a.2) [
           | inl h ↦ let m = cases_err base next zs d h in (inr (a.0, found_ok (next - 3 * suc (length zs)) base z a.0 a.1, m.0), m.1)
@@ -137,11 +137,11 @@ module _ (ps : List (RawInstr × ℕ)) (all : All (λ p. 0 < p.1) ps) where
   instr_ok : (here next : ℕ) (raw : RawInstr) (i : Instr) → instr_of (starts 0 ps) here next raw ≡ Ok i → Means ps here next raw i
   instr_ok here next (Same j) i e = cc
   instr_ok here next (Branch op z) i e =
-      let a = bind_ok (found (here + 1) (target_of (starts 0 ps) next z)) (λ t. Ok (instrs.Branch op t)) i e in
+      let a = bind_ok (found_target (here + 1) (target_of (starts 0 ps) next z)) (λ t. Ok (instrs.Branch op t)) i e in
       let f = a.2 in
       (a.0, found_ok (here + 1) next z a.0 a.1, cc)
   instr_ok here next (Switch z zs) i e =
-      let a = bind_ok (found (here + 1) (target_of (starts 0 ps) here z)) (λ t. cases_of (starts 0 ps) here next zs >>= λ ts. Ok (instrs.Switch t ts)) i e in
+      let a = bind_ok (found_target (here + 1) (target_of (starts 0 ps) here z)) (λ t. cases_of (starts 0 ps) here next zs >>= λ ts. Ok (instrs.Switch t ts)) i e in
       let b = bind_ok (cases_of (starts 0 ps) here next zs) (λ ts. Ok (instrs.Switch a.0 ts)) i a.2 in
       let f = b.2 in
       (a.0, b.0, found_ok (here + 1) here z a.0 a.1, cases_ok here next zs b.0 b.1, cc)
@@ -157,12 +157,12 @@ module _ (ps : List (RawInstr × ℕ)) (all : All (λ p. 0 < p.1) ps) where
   instr_err : (here next : ℕ) (raw : RawInstr) (d : Refusal) → instr_of (starts 0 ps) here next raw ≡ Err d → Misses ps here next raw d.place × (d.reason ≡ reasons.Target)
   instr_err here next (Same j) d e = absurd cc
   instr_err here next (Branch op z) d e =
-      elim (bind_err (found (here + 1) (target_of (starts 0 ps) next z)) (λ t. Ok (instrs.Branch op t)) d e) [
+      elim (bind_err (found_target (here + 1) (target_of (starts 0 ps) next z)) (λ t. Ok (instrs.Branch op t)) d e) [
         | inl h ↦ let m = found_err (here + 1) next z d h in ((m.0, ap (λ (r : Refusal). r.place) m.1), ap (λ (r : Refusal). r.reason) m.1)
         | inr a ↦ absurd (let f = a.2 in cc)
       ]
   instr_err here next (Switch z zs) d e =
-      elim (bind_err (found (here + 1) (target_of (starts 0 ps) here z)) (λ t. cases_of (starts 0 ps) here next zs >>= λ ts. Ok (instrs.Switch t ts)) d e) [
+      elim (bind_err (found_target (here + 1) (target_of (starts 0 ps) here z)) (λ t. cases_of (starts 0 ps) here next zs >>= λ ts. Ok (instrs.Switch t ts)) d e) [
         | inl h ↦ let m = found_err (here + 1) here z d h in (inl (m.0, ap (λ (r : Refusal). r.place) m.1), ap (λ (r : Refusal). r.reason) m.1)
         | inr a ↦ elim (bind_err (cases_of (starts 0 ps) here next zs) (λ ts. Ok (instrs.Switch a.0 ts)) d a.2) [
           | inl h ↦ let m = cases_err here next zs d h in (inr (a.0, found_ok (here + 1) here z a.0 a.1, m.0), m.1)

@@ -7,7 +7,7 @@ use Rattle.abc_file_types.specs.declared.reason.Reason.TheVariants as reasons
 use Rattle.abc_file_types.proofs.Exact.{done-exact, bind_ok, bind_err, fine, ok_is, Front-then, Front-first, Front-second, guard_ok, guard_err, image-exact, checked-exact, then-exact, times-exact, both-exact}
 use Rattle.abc_base.proofs.Spelling.{IsGroups, raw, longer, groups_number, number_groups, number_value}
 use Rattle.abc_file_types.specs.Law.{Exact}
-use Rattle.abc_file_types.specs.Lists.{counted, pool, pool_by, times}
+use Rattle.abc_file_types.specs.Lists.{count_and_items, pool, pool_by, times}
 use Rattle.abc_file_types.specs.Numbers.{BadHere, byte, byte_at, byte_here, groups, number, s24, u30, u32, u8, index_below, pool_index, entry_index, s32, u16}
 use Rattle.abc_file_types.specs.Part.{At, Front, Part, Refusal, both, further, limit, refusal, when, ◌>>=◌}
 
@@ -241,8 +241,8 @@ pub entry_index-exact : (n : ℕ) → Exact (entry_index n)
 unfolding entry_index
 entry_index-exact n = checked-exact _ _ u30 u30-exact
 
-pub counted-exact : {A : Type 0} (p : Part A) → Exact p → Exact (counted p)
-unfolding counted
+pub counted-exact : {A : Type 0} (p : Part A) → Exact p → Exact (count_and_items p)
+unfolding count_and_items
 counted-exact p ep = image-exact _ _ (then-exact u30 (λ n. times n p) u30-exact (λ n. times-exact n p ep))
 
 pub pool_by-exact : {A : Type 0} (p : ℕ → Part A) → ((n : ℕ) → Exact (p n)) → Exact (pool_by p)

@@ -14,7 +14,7 @@ use Rattle.abc_file_types.specs.declared.reason.Reason.TheVariants as reasons
 use Rattle.abc_file_types.specs.Part.{Refusal, refusal, ◌>>=◌}
 use Rattle.abc_file_types.proofs.Exact.{bind_err}
 use Rattle.abc_file_types.specs.Starts.{starts, size, IsRising}
-use Rattle.abc_file_types.specs.Targets.{at_start, target_of, found, cases_of, instr_of, instrs_of, resolve}
+use Rattle.abc_file_types.specs.Targets.{at_start, target_of, found_target, cases_of, instr_of, instrs_of, resolve_targets}
 use Rattle.abc_file_types.specs.Instructions.{RawInstr, Same, Branch, Switch}
 use Rattle.abc_file_types.specs.declared.code.Instr.TheVariants as instrs
 
@@ -118,14 +118,14 @@ few_starts ps all le = omega (arith, length-starts 0 ps, short ps all)
 abbrev missing : {A : Type 0} → Refusal → Result A Refusal
 missing d = Err d
 
-found_err : (place : ℕ) (o : Option ℕ) (d : Refusal) → found place o ≡ Err d → d ≡ refusal place reasons.Target
+found_err : (place : ℕ) (o : Option ℕ) (d : Refusal) → found_target place o ≡ Err d → d ≡ refusal place reasons.Target
 found_err place (Some t) d e = absurd cc
 found_err place None d e = cc
 
 cases_within : (ss : List ℕ) (base next : ℕ) (zs : List ℤ) (d : Refusal) → cases_of ss base next zs ≡ Err d → d.place ≤ next
 cases_within ss base next [] d e = absurd cc
 cases_within ss base next (z ∷ zs) d e =
-    elim (bind_err (found (next - 3 * suc (length zs)) (target_of ss base z)) (λ t. cases_of ss base next zs >>= λ ts. Ok (t ∷ ts)) d e) [
+    elim (bind_err (found_target (next - 3 * suc (length zs)) (target_of ss base z)) (λ t. cases_of ss base next zs >>= λ ts. Ok (t ∷ ts)) d e) [
       | inl h ↦ let p : d.place ≡ next - 3 * suc (length zs) = ap (λ (r : Refusal). r.place) (found_err (next - 3 * suc (length zs)) (target_of ss base z) d h) in omega arith
       | inr a ↦ elim (bind_err (cases_of ss base next zs) (λ ts. Ok (a.0 ∷ ts)) d a.2) [
         | inl h ↦ cases_within ss base next zs d h
@@ -136,12 +136,12 @@ cases_within ss base next (z ∷ zs) d e =
 instr_within : (ss : List ℕ) (here next : ℕ) (raw : RawInstr) (d : Refusal) → here < next → instr_of ss here next raw ≡ Err d → d.place ≤ next
 instr_within ss here next (Same j) d lt e = absurd cc
 instr_within ss here next (Branch op z) d lt e =
-    elim (bind_err (found (here + 1) (target_of ss next z)) (λ t. Ok (instrs.Branch op t)) d e) [
+    elim (bind_err (found_target (here + 1) (target_of ss next z)) (λ t. Ok (instrs.Branch op t)) d e) [
       | inl h ↦ let p : d.place ≡ here + 1 = ap (λ (r : Refusal). r.place) (found_err (here + 1) (target_of ss next z) d h) in omega arith
       | inr a ↦ absurd (let f = a.2 in cc)
     ]
 instr_within ss here next (Switch z zs) d lt e =
-    elim (bind_err (found (here + 1) (target_of ss here z)) (λ t. cases_of ss here next zs >>= λ ts. Ok (instrs.Switch t ts)) d e) [
+    elim (bind_err (found_target (here + 1) (target_of ss here z)) (λ t. cases_of ss here next zs >>= λ ts. Ok (instrs.Switch t ts)) d e) [
       | inl h ↦ let p : d.place ≡ here + 1 = ap (λ (r : Refusal). r.place) (found_err (here + 1) (target_of ss here z) d h) in omega arith
       | inr a ↦ elim (bind_err (cases_of ss here next zs) (λ ts. Ok (instrs.Switch a.0 ts)) d a.2) [
         | inl h ↦ cases_within ss here next zs d h
@@ -161,6 +161,6 @@ missed_within ss here (x ∷ xs) d all e =
       ]
     ]
 
-pub resolve_fails : (ps : List (RawInstr × ℕ)) (ss : List ℕ) (at : ℕ) → ss ≡ starts 0 ps → instrs_of ss 0 ps ≡ Err (refusal at reasons.Target) → resolve ps ≡ Err (refusal at reasons.Target)
-unfolding resolve
+pub resolve_fails : (ps : List (RawInstr × ℕ)) (ss : List ℕ) (at : ℕ) → ss ≡ starts 0 ps → instrs_of ss 0 ps ≡ Err (refusal at reasons.Target) → resolve_targets ps ≡ Err (refusal at reasons.Target)
+unfolding resolve_targets
 resolve_fails ps ss at e h = let f : instrs_of (starts 0 ps) 0 ps ≡ Err (refusal at reasons.Target) = rw (← e) h in rw f refl

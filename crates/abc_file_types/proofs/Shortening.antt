@@ -5,7 +5,7 @@ use Rattle.std.proofs.lemmas.List.{append-nil, map-append}
 use Rattle.std.proofs.lemmas.List.Concat.{flat_map-cons}
 use Rattle.abc_base.specs.Numbers.{number_bytes}
 use Rattle.abc_file_types.specs.Canonical.{IsCanonical, NoGreater, counted_bytes}
-use Rattle.abc_file_types.specs.Lists.{chain, counted, times}
+use Rattle.abc_file_types.specs.Lists.{chain, count_and_items, times}
 use Rattle.abc_file_types.specs.Numbers.{u30}
 use Rattle.abc_file_types.specs.Part.{Part, both, image, then_by}
 use Rattle.abc_file_types.proofs.Canon.{times_length, u30-canonical}
@@ -111,8 +111,8 @@ times_shortest (suc n) p q f k xs b s =
 pub times-shortens : {A : Type 0} (n : ℕ) (p q : Part A) (f : A → List ℕ) → Shortens p q kept f → Shortens (times n p) (times n q) kept (flat_map f)
 times-shortens n p q f k = record { spelled = times_spelled n p q f k; shortest = times_shortest n p q f k }
 
-pub counted-shortens : {A : Type 0} (p q : Part A) (f : A → List ℕ) → Shortens p q kept f → Shortens (counted p) (counted q) kept (counted_bytes f)
-unfolding counted counted_bytes
+pub counted-shortens : {A : Type 0} (p q : Part A) (f : A → List ℕ) → Shortens p q kept f → Shortens (count_and_items p) (count_and_items q) kept (counted_bytes f)
+unfolding count_and_items counted_bytes
 counted-shortens {A = A} p q f k =
     image-shortens (λ (x : ℕ × List A). x.1) (λ (x : ℕ × List A). x.1) (then_by u30 (λ n. times n p)) (then_by u30 (λ n. times n q)) (λ x. (x.0, x.1)) (λ x. number_bytes x.0 ++ flat_map f x.1)
     kept (λ xs. number_bytes (length xs) ++ flat_map f xs)

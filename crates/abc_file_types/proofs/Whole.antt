@@ -4,7 +4,7 @@ use Rattle.std.specs.Prelude.{All, nat_eq}
 use Rattle.std.proofs.lemmas.List.{append-nil}
 use Rattle.std.proofs.lemmas.Bool.Decides.{nat_tests}
 use Rattle.abc_file_types.specs.declared.reason.Reason.TheVariants as reasons
-use Rattle.abc_file_types.specs.Part.{Part, At, at, limit, Front, Refusal, refusal, Begins}
+use Rattle.abc_file_types.specs.Part.{Part, At, at_of, limit, Front, Refusal, refusal, Begins}
 use Rattle.abc_file_types.specs.Law.{Exact, IsDetermined}
 use Rattle.abc_file_types.specs.Canonical.{IsCanonical, IsLeast, u16_bytes}
 use Rattle.abc_file_types.proofs.Exact.{image-exact, both-exact, checked-exact, then-exact}
@@ -62,13 +62,13 @@ read_bad from r b = b
 
 -- ---- the whole input
 
-whole_front : (b : List ℕ) → length b ≤ limit → Front (at 0 b) b (at (length b) [])
+whole_front : (b : List ℕ) → length b ≤ limit → Front (at_of 0 b) b (at_of (length b) [])
 whole_front b le = record { parts = sym (append-nil b); place = omega arith; room = le; same = refl; within = λ h. omega arith }
 
-begins_whole : (v : Abc) (b : List ℕ) → IsFile v b → Begins file (at 0 b) v (at (length b) [])
+begins_whole : (v : Abc) (b : List ℕ) → IsFile v b → Begins file (at_of 0 b) v (at_of (length b) [])
 begins_whole v b f = record { front = b; spelled = f.0; is = whole_front b f.1 }
 
-pub whole_begins : {A : Type 0} (p : Part A) (v : A) (b : List ℕ) (after : At) → Begins p (at 0 b) v after → after.bytes ≡ [] → p.spells v b × (length b ≤ limit)
+pub whole_begins : {A : Type 0} (p : Part A) (v : A) (b : List ℕ) (after : At) → Begins p (at_of 0 b) v after → after.bytes ≡ [] → p.spells v b × (length b ≤ limit)
 whole_begins p v b after s none =
     let e : b ≡ s.front = s.is.parts ∙ ap (λ (t : List ℕ). s.front ++ t) none ∙ append-nil s.front in
     let le : length s.front ≤ limit = omega (arith, s.is.place, s.is.room) in
@@ -78,13 +78,13 @@ is_empty : (b : List ℕ) → (b ≡ []) ⊎ (b ≢ [])
 is_empty [] = inl refl
 is_empty (x ∷ b) = inr (λ e. cc)
 
-zero_room : (b : List ℕ) → (at 0 b).place ≤ limit
+zero_room : (b : List ℕ) → (at_of 0 b).place ≤ limit
 zero_room b = omega arith
 
 law : IsDetermined file
 law = determined file file-exact
 
-decided_some : (b : List ℕ) → ((v : Abc) × (after : At) × Begins file (at 0 b) v after) ⊎ ((r : Refusal) × file.bad (at 0 b) r) → ((v : Abc) × IsFile v b) ⊎ ((r : Refusal) × IsBadFile b r)
+decided_some : (b : List ℕ) → ((v : Abc) × (after : At) × Begins file (at_of 0 b) v after) ⊎ ((r : Refusal) × file.bad (at_of 0 b) r) → ((v : Abc) × IsFile v b) ⊎ ((r : Refusal) × IsBadFile b r)
 decided_some b (inl s) =
     elim (is_empty s.1.bytes) [
       | inl none ↦ inl (s.0, whole_begins file s.0 b s.1 s.2 none)
@@ -93,23 +93,23 @@ decided_some b (inl s) =
 decided_some b (inr r) = inr (r.0, inl r.1)
 
 same_refusal : (b : List ℕ) (r s : Refusal) → IsBadFile b r → IsBadFile b s → r ≡ s
-same_refusal b r s (inl x) (inl y) = law.one_refusal (at 0 b) r s x y
-same_refusal b r s (inl x) (inr y) = absurd (law.never_both (at 0 b) y.0 y.1 r y.2 x)
-same_refusal b r s (inr x) (inl y) = absurd (law.never_both (at 0 b) x.0 x.1 s x.2 y)
+same_refusal b r s (inl x) (inl y) = law.one_refusal (at_of 0 b) r s x y
+same_refusal b r s (inl x) (inr y) = absurd (law.never_both (at_of 0 b) y.0 y.1 r y.2 x)
+same_refusal b r s (inr x) (inl y) = absurd (law.never_both (at_of 0 b) x.0 x.1 s x.2 y)
 same_refusal b r s (inr x) (inr y) =
-    let e = (law.one_value (at 0 b) x.0 y.0 x.1 y.1 x.2 y.2).1 in
+    let e = (law.one_value (at_of 0 b) x.0 y.0 x.1 y.1 x.2 y.2).1 in
     x.4 ∙ ap (λ (a : At). refusal a.place reasons.Trailing) e ∙ sym y.4
 
 never_both : (b : List ℕ) (v : Abc) (r : Refusal) → IsFile v b → IsBadFile b r → ⊥
-never_both b v r f (inl x) = law.never_both (at 0 b) v (at (length b) []) r (begins_whole v b f) x
+never_both b v r f (inl x) = law.never_both (at_of 0 b) v (at_of (length b) []) r (begins_whole v b f) x
 never_both b v r f (inr x) =
-    let e = (law.one_value (at 0 b) v x.0 (at (length b) []) x.1 (begins_whole v b f) x.2).1 in
+    let e = (law.one_value (at_of 0 b) v x.0 (at_of (length b) []) x.1 (begins_whole v b f) x.2).1 in
     x.3 (sym (ap (λ (a : At). a.bytes) e))
 
 pub decided : (b : List ℕ) → IsDecided b
 decided b = record {
-  some = decided_some b (law.some (at 0 b) (zero_room b));
-  one_value = λ v w f g. (law.one_value (at 0 b) v w (at (length b) []) (at (length b) []) (begins_whole v b f) (begins_whole w b g)).0;
+  some = decided_some b (law.some (at_of 0 b) (zero_room b));
+  one_value = λ v w f g. (law.one_value (at_of 0 b) v w (at_of (length b) []) (at_of (length b) []) (begins_whole v b f) (begins_whole w b g)).0;
   one_refusal = same_refusal b;
   never_both = never_both b;
 }

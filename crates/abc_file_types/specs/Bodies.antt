@@ -3,9 +3,9 @@ use Rattle.std.specs.Prelude.{ℕ, ◌≤◌, List, [], ◌++◌, All, length, m
 use Rattle.std.specs.List.{list_any}
 use Rattle.abc_base.specs.Numbers.{number_bytes}
 use Rattle.abc_file_types.specs.declared.reason.Reason.TheVariants as reasons
-use Rattle.abc_file_types.specs.Part.{Part, then_by, both, image, checked}
+use Rattle.abc_file_types.specs.Part.{Part, then_by, both, image, with_test}
 use Rattle.abc_file_types.specs.Numbers.{u30, index_below, pool_index}
-use Rattle.abc_file_types.specs.Lists.{counted, chain}
+use Rattle.abc_file_types.specs.Lists.{count_and_items, chain}
 use Rattle.abc_file_types.specs.Canonical.{counted_bytes}
 use Rattle.abc_file_types.specs.declared.code.Body.{Body}
 use Rattle.abc_file_types.specs.declared.code.Handler.{Handler}
@@ -38,7 +38,7 @@ handler_bytes starts h =
 
 -- a method that none of these bodies have
 unfoldable pub body_method : Sizes → List ℕ → Part ℕ
-body_method v taken = checked (λ m. not (list_any (nat_eq m) taken)) reasons.SecondBody (index_below v.methods)
+body_method v taken = with_test (λ m. not (list_any (nat_eq m) taken)) reasons.SecondBody (index_below v.methods)
 
 -- the fields in their order, and beside the body where its instructions started
 abbrev pub body_in : ℕ × (ℕ × (ℕ × (ℕ × (ℕ × (Code × (List Handler × List TraitInfo)))))) → Body × List ℕ
@@ -57,14 +57,14 @@ body_in (method, (max_stack, (local_count, (init_scope, (max_scope, (code, (hand
 )
 
 -- a body whose code and method are spelled so, with the starts of its instructions as they were read
-abbrev pub body_of : Part Code → Sizes → Part ℕ → Part (Body × List ℕ)
-body_of code v method =
+abbrev pub body_of_parts : Part Code → Sizes → Part ℕ → Part (Body × List ℕ)
+body_of_parts code v method =
     image body_in
     (both method (both u30 (both u30 (both u30 (both u30 (then_by code (λ c.
-    both (counted (handler v c.offsets)) (counted (trait_info v)))))))))
+    both (count_and_items (handler v c.offsets)) (count_and_items (trait_info v)))))))))
 
 unfoldable pub body_with : Sizes → Part ℕ → Part (Body × List ℕ)
-body_with = body_of code
+body_with = body_of_parts code
 
 -- a body, where these methods have one already
 unfoldable pub body : Sizes → List ℕ → Part (Body × List ℕ)
@@ -106,7 +106,7 @@ bodies_alone abc = image (λ x. x.0) (bodies abc)
 -- ---- which bodies some bytes spell
 
 -- The places are numbers of the n instructions or of the end.
-pub record IsWithin (n : ℕ) (h : Handler) : Type 0 where
+pub record IsHandlerWithin (n : ℕ) (h : Handler) : Type 0 where
   pub from : h.from ≤ n
   pub to : h.to ≤ n
   pub target : h.target ≤ n
@@ -114,4 +114,4 @@ pub record IsWithin (n : ℕ) (h : Handler) : Type 0 where
 -- Some bytes spell the code, and its exceptions name places in it.
 pub record IsReadyBody (b : Body) : Type 0 where
   pub code : IsReady b.code
-  pub places : All (IsWithin (length b.code)) b.handlers
+  pub places : All (IsHandlerWithin (length b.code)) b.handlers

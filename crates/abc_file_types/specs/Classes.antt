@@ -6,7 +6,7 @@ use Rattle.std.specs.List.{flat_map}
 use Rattle.abc_base.specs.Numbers.{number_bytes}
 use Rattle.abc_file_types.specs.Part.{Part, then_by, both, image, when}
 use Rattle.abc_file_types.specs.Numbers.{u8, u30, index_below, pool_index, entry_index}
-use Rattle.abc_file_types.specs.Lists.{times, counted}
+use Rattle.abc_file_types.specs.Lists.{times, count_and_items}
 use Rattle.abc_file_types.specs.Canonical.{counted_bytes}
 use Rattle.abc_file_types.specs.declared.classes.Instance.{Instance}
 use Rattle.abc_file_types.specs.declared.classes.ClassInfo.{ClassInfo}
@@ -33,7 +33,7 @@ instance v =
     image instance_in
     (both (entry_index v.names) (both (pool_index v.names) (then_by u8 (λ flags.
     both (when (has_flag flags 0x08) None (image some_index (pool_index v.namespaces)))
-    (both (counted (entry_index v.names)) (both (index_below v.methods) (counted (trait_info v))))))))
+    (both (count_and_items (entry_index v.names)) (both (index_below v.methods) (count_and_items (trait_info v))))))))
 
 abbrev pub protected_bytes : Option ℕ → List ℕ
 protected_bytes None = []
@@ -46,14 +46,14 @@ instance_bytes i =
 
 -- the initializer of a class, and the traits of the class itself
 unfoldable pub class_info : Sizes → Part ClassInfo
-class_info v = image (λ x. record { cinit = x.0; traits = x.1 }) (both (index_below v.methods) (counted (trait_info v)))
+class_info v = image (λ x. record { cinit = x.0; traits = x.1 }) (both (index_below v.methods) (count_and_items (trait_info v)))
 
 unfoldable pub class_bytes : ClassInfo → List ℕ
 class_bytes c = number_bytes c.cinit ++ counted_bytes trait_bytes c.traits
 
 -- the initializer of a script, and its traits
 unfoldable pub script : Sizes → Part Script
-script v = image (λ x. record { init = x.0; traits = x.1 }) (both (index_below v.methods) (counted (trait_info v)))
+script v = image (λ x. record { init = x.0; traits = x.1 }) (both (index_below v.methods) (count_and_items (trait_info v)))
 
 unfoldable pub script_bytes : Script → List ℕ
 script_bytes s = number_bytes s.init ++ counted_bytes trait_bytes s.traits
@@ -88,10 +88,10 @@ with_definitions abc (methods, (metadata, (count, (instances, (classes, scripts)
 unfoldable pub definitions : Abc → Part Abc
 definitions abc =
     image (with_definitions abc)
-    (then_by (counted (method (sizes_with abc 0 0 0))) (λ methods.
-    then_by (counted (metadata (sizes_with abc 0 0 0))) (λ metadata.
+    (then_by (count_and_items (method (sizes_with abc 0 0 0))) (λ methods.
+    then_by (count_and_items (metadata (sizes_with abc 0 0 0))) (λ metadata.
     then_by u30 (λ classes. let v = sizes_with abc (length methods) (length metadata) classes in
-    both (times classes (instance v)) (both (times classes (class_info v)) (counted (script v)))))))
+    both (times classes (instance v)) (both (times classes (class_info v)) (count_and_items (script v)))))))
 
 -- the canonical bytes of all definitions; the count of classes stands once, before the instances
 unfoldable pub definitions_bytes : Abc → List ℕ

@@ -2,14 +2,14 @@
 -- and which first fault refuses them (Overview, chapter 5; profile: docs/FORMAT.md, "Code" and "What is refused").
 use Rattle.std.specs.Prelude.{◌≡◌, ℕ, suc, ℤ, pos, ◌+ℤ◌, ◌+◌, ◌-◌, ◌*◌, ◌≤◌, ◌⊎◌, List, [], ◌∷◌, length}
 use Rattle.abc_file_types.specs.declared.reason.Reason.TheVariants as reasons
-use Rattle.abc_file_types.specs.Part.{Part, Refusal, refusal, At, Front, image, then_by, refined}
-use Rattle.abc_file_types.specs.Ends.{Pieces, BadPiece, blamed}
+use Rattle.abc_file_types.specs.Part.{Part, Refusal, refusal, At, Front, image, then_by, map_or_refuse}
+use Rattle.abc_file_types.specs.Ends.{Pieces, BadPiece, blame_first}
 use Rattle.abc_file_types.specs.declared.code.Instr.{Instr}
 use Rattle.abc_file_types.specs.declared.code.Instr.TheVariants as instrs
 use Rattle.abc_file_types.specs.declared.instructions.Code.{Code}
 use Rattle.abc_file_types.specs.Instructions.{RawInstr, Same, Branch, Switch, instruction, pieces, code_length}
 use Rattle.abc_file_types.specs.Starts.{start, AreStarts}
-use Rattle.abc_file_types.specs.Targets.{resolve}
+use Rattle.abc_file_types.specs.Targets.{resolve_targets}
 
 -- An offset z from a base leads to the number t: to the start of piece t, or to the end.
 pub record IsTarget {A : Type 0} (ps : List (A × ℕ)) (base : ℕ) (z : ℤ) (t : ℕ) : Type 0 where
@@ -82,8 +82,8 @@ pub record BadTargetOf (instruction : Part RawInstr) (n : ℕ) (from : At) (r : 
 abbrev pub code_body_of : Part RawInstr → Part (List (RawInstr × ℕ)) → ℕ → Part Code
 code_body_of instruction pieces n = record {
   spells = λ c b. SpellsCodeOf instruction c b × (length b ≡ n);
-  bad = λ from r. BadPiece n (blamed instruction) from r ⊎ BadTargetOf instruction n from r;
-  reads = (refined resolve pieces).reads;
+  bad = λ from r. BadPiece n (blame_first instruction) from r ⊎ BadTargetOf instruction n from r;
+  reads = (map_or_refuse resolve_targets pieces).reads;
 }
 
 unfoldable pub code_body : ℕ → Part Code

@@ -27,17 +27,17 @@ instr_len (instrs.ScopeObject x) = 1 + 1
 instr_len (instrs.Debug kind name reg extra) = 1 + 1 + number_len name + 1 + number_len extra
 
 -- each instruction with the number of its canonical bytes
-abbrev pub sized : List Instr → List (Instr × ℕ)
-sized [] = []
-sized (i ∷ is) = (i, instr_len i) ∷ sized is
+abbrev pub with_lengths : List Instr → List (Instr × ℕ)
+with_lengths [] = []
+with_lengths (i ∷ is) = (i, instr_len i) ∷ with_lengths is
 
 -- the sum over all instructions, which leaves the number of bytes before them out
 abbrev pub code_len : List Instr → ℕ
-code_len is = size (sized is)
+code_len is = size (with_lengths is)
 
 -- the starts in the canonical bytes, and their length
 unfoldable pub canonical_starts : List Instr → List ℕ
-canonical_starts is = starts 0 (sized is)
+canonical_starts is = starts 0 (with_lengths is)
 
 -- ---- which
 

@@ -3,22 +3,22 @@ use Rattle.std.specs.Prelude.{◌≡◌, ℕ, zero, suc, ◌+◌, ◌-◌, ◌<�
 use Rattle.std.specs.declared.result.Result.{Result}
 use Rattle.abc_file_types.specs.declared.reason.Reason.{Reason}
 use Rattle.abc_file_types.specs.declared.reason.Reason.TheVariants as reasons
-use Rattle.abc_file_types.specs.Part.{At, Refusal, refusal, Part, Front, ◌>>=◌, done, then_by, image}
+use Rattle.abc_file_types.specs.Part.{At, Refusal, refusal, Part, Front, ◌>>=◌, known_value, then_by, image}
 
 -- no byte past the next n is looked at
-abbrev pub capped : ℕ → At → At
-capped n from = record { place = from.place; bytes = from.bytes; end = min from.end (from.place + n) }
+abbrev pub within_next : ℕ → At → At
+within_next n from = record { place = from.place; bytes = from.bytes; end = min from.end (from.place + n) }
 
-abbrev pub uncapped : {A : Type 0} → ℕ → Result (A × At) Refusal → Result (A × At) Refusal
-uncapped end (Ok x) = Ok (x.0, record { place = x.1.place; bytes = x.1.bytes; end = end })
-uncapped end (Err e) = Err e
+abbrev pub with_outer_end : {A : Type 0} → ℕ → Result (A × At) Refusal → Result (A × At) Refusal
+with_outer_end end (Ok x) = Ok (x.0, record { place = x.1.place; bytes = x.1.bytes; end = end })
+with_outer_end end (Err e) = Err e
 
 -- the part, within the next n bytes
 abbrev pub inside : {A : Type 0} → ℕ → Part A → Part A
 inside n p = record {
   spells = λ x b. p.spells x b × (length b ≤ n);
-  bad = λ from r. p.bad (capped n from) r;
-  reads = λ from. uncapped from.end (p.reads (capped n from));
+  bad = λ from r. p.bad (within_next n from) r;
+  reads = λ from. with_outer_end from.end (p.reads (within_next n from));
 }
 
 abbrev pub is_code_ends : Reason → Bool
@@ -34,16 +34,16 @@ blamed_read place (Ok x) = Ok x
 blamed_read place (Err e) = Err (blame place e)
 
 -- the part, whose first byte is blamed where it needs a byte past the end
-abbrev pub blamed : {A : Type 0} → Part A → Part A
-blamed p = record {
+abbrev pub blame_first : {A : Type 0} → Part A → Part A
+blame_first p = record {
   spells = p.spells;
   bad = λ from r. (e : Refusal) × p.bad from e × (r ≡ blame from.place e);
   reads = λ from. blamed_read from.place (p.reads from);
 }
 
 -- a value, with how many bytes spelled it
-abbrev pub measured : {A : Type 0} → Part A → Part (A × ℕ)
-measured p = record {
+abbrev pub with_byte_count : {A : Type 0} → Part A → Part (A × ℕ)
+with_byte_count p = record {
   spells = λ y b. p.spells y.0 b × (y.1 ≡ length b);
   bad = p.bad;
   reads = λ from. p.reads from >>= λ x. Ok ((x.0, x.1.place - from.place), x.1);
@@ -51,9 +51,9 @@ measured p = record {
 
 -- items of at least one byte that fill just n bytes, at most k of them
 abbrev pub fill : {A : Type 0} → ℕ → ℕ → Part A → Part (List (A × ℕ))
-fill k zero p = done []
-fill zero (suc n) p = done []
-fill (suc k) (suc n) p = image (λ x. x.0 ∷ x.1) (then_by (measured (inside (suc n) p)) (λ x. fill k (suc n - x.1) p))
+fill k zero p = known_value []
+fill zero (suc n) p = known_value []
+fill (suc k) (suc n) p = image (λ x. x.0 ∷ x.1) (then_by (with_byte_count (inside (suc n) p)) (λ x. fill k (suc n - x.1) p))
 
 -- ---- what it means that items fill bytes without a gap
 

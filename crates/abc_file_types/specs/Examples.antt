@@ -9,7 +9,7 @@ use Rattle.abc_file_types.specs.declared.methods.ValueKind.TheVariants as values
 use Rattle.abc_file_types.specs.declared.names.Multiname.TheVariants as names
 use Rattle.abc_file_types.specs.declared.names.NsKind.TheVariants as spaces
 use Rattle.abc_file_types.specs.declared.tables.Abc.{Abc}
-use Rattle.abc_file_types.specs.Part.{at, limit, refusal}
+use Rattle.abc_file_types.specs.Part.{at_of, limit, refusal}
 use Rattle.abc_file_types.specs.Numbers.{u8}
 use Rattle.abc_file_types.specs.Pools.{empty}
 use Rattle.abc_file_types.specs.Files.{Fits, IsBadFile, IsFile, file_bytes}
@@ -17,19 +17,19 @@ use Rattle.abc_file_types.specs.Files.{Fits, IsBadFile, IsFile, file_bytes}
 -- ---- bytes
 
 -- minor version 16 and major version 46
-abbrev pub head : List ℕ
-head = 0x10 ∷ 0 ∷ 0x2e ∷ 0 ∷ []
+abbrev pub version_head : List ℕ
+version_head = 0x10 ∷ 0 ∷ 0x2e ∷ 0 ∷ []
 
 abbrev pub zeros : ℕ → List ℕ
 zeros n = replicate n 0
 
 -- up to place 27: a method without parameters, a script with it as its init, and a body of at most 2 values, one local and one scope
 abbrev pub script_head : List ℕ
-script_head = head ++ zeros 7 ++ 1 ∷ zeros 4 ++ zeros 2 ++ 1 ∷ zeros 2 ++ 1 ∷ 0 ∷ 2 ∷ 1 ∷ 0 ∷ 1 ∷ []
+script_head = version_head ++ zeros 7 ++ 1 ∷ zeros 4 ++ zeros 2 ++ 1 ∷ zeros 2 ++ 1 ∷ 0 ∷ 2 ∷ 1 ∷ 0 ∷ 1 ∷ []
 
 -- the same, its code from place 28 on, and its exceptions and traits
-abbrev pub script : (code rest : List ℕ) → List ℕ
-script code rest = script_head ++ length code ∷ [] ++ code ++ rest
+abbrev pub script_bytes : (code rest : List ℕ) → List ℕ
+script_bytes code rest = script_head ++ length code ∷ [] ++ code ++ rest
 
 abbrev pub script_file : List Instr → List Handler → Abc
 script_file code handlers = record empty {
@@ -39,9 +39,9 @@ script_file code handlers = record empty {
 }
 
 -- strings 1 "trace" and 2 "Hi", the public namespace 1 and the name 1; trace("Hi")
-abbrev pub hi : List ℕ
-hi =
-    head ++ zeros 3 ++ 3 ∷ 5 ∷ codes "trace" ++ 2 ∷ codes "Hi" ++ 2 ∷ 0x16 ∷ 0 ∷ 0 ∷ 2 ∷ 7 ∷ 1 ∷ 1 ∷ [] ++ 1 ∷ zeros 4 ++ zeros 2 ++ 1 ∷ zeros 2
+abbrev pub file_hi : List ℕ
+file_hi =
+    version_head ++ zeros 3 ++ 3 ∷ 5 ∷ codes "trace" ++ 2 ∷ codes "Hi" ++ 2 ∷ 0x16 ∷ 0 ∷ 0 ∷ 2 ∷ 7 ∷ 1 ∷ 1 ∷ [] ++ 1 ∷ zeros 4 ++ zeros 2 ++ 1 ∷ zeros 2
     ++ 1 ∷ 0 ∷ 2 ∷ 1 ∷ 0 ∷ 1 ∷ 10 ∷ 0xd0 ∷ 0x30 ∷ 0x5d ∷ 1 ∷ 0x2c ∷ 2 ∷ 0x4f ∷ 1 ∷ 1 ∷ 0x47 ∷ zeros 2
 
 abbrev pub hi_file : Abc
@@ -70,26 +70,26 @@ no_string_file = record empty { names = names.QName false 0 1 ∷ [] }
 -- Which file some bytes spell, and which bytes are a file's canonical ones.
 pub record SpelledExamples : Type 0 where
   -- all tables are empty; the count 1 of a pool means none, as 0 does
-  pub empty_file : IsFile empty (head ++ zeros 12)
-  pub empty_pool : IsFile empty (head ++ 1 ∷ zeros 11)
-  pub empty_written : file_bytes empty ≡ head ++ zeros 12
+  pub empty_file : IsFile empty (version_head ++ zeros 12)
+  pub empty_pool : IsFile empty (version_head ++ 1 ∷ zeros 11)
+  pub empty_written : file_bytes empty ≡ version_head ++ zeros 12
   -- 5 in two bytes, which is written in one; a short number has no sign
-  pub long_five : IsFile (record empty { ints = pos 5 ∷ [] }) (head ++ 2 ∷ 0x85 ∷ 0 ∷ zeros 11)
-  pub five_written : file_bytes (record empty { ints = pos 5 ∷ [] }) ≡ head ++ 2 ∷ 5 ∷ zeros 11
-  pub sixty_four : IsFile (record empty { ints = pos 64 ∷ [] }) (head ++ 2 ∷ 0x40 ∷ zeros 11)
+  pub long_five : IsFile (record empty { ints = pos 5 ∷ [] }) (version_head ++ 2 ∷ 0x85 ∷ 0 ∷ zeros 11)
+  pub five_written : file_bytes (record empty { ints = pos 5 ∷ [] }) ≡ version_head ++ 2 ∷ 5 ∷ zeros 11
+  pub sixty_four : IsFile (record empty { ints = pos 64 ∷ [] }) (version_head ++ 2 ∷ 0x40 ∷ zeros 11)
   -- -1 twice: the upper bits of a fifth byte mean nothing
   pub minus_one : IsFile (record empty { ints = negsuc 0 ∷ negsuc 0 ∷ [] })
-      (head ++ 3 ∷ 0xff ∷ 0xff ∷ 0xff ∷ 0xff ∷ 0x0f ∷ 0xff ∷ 0xff ∷ 0xff ∷ 0xff ∷ 0x7f ∷ zeros 11)
-  pub minus_one_written : file_bytes (record empty { ints = negsuc 0 ∷ [] }) ≡ head ++ 2 ∷ 0xff ∷ 0xff ∷ 0xff ∷ 0xff ∷ 0x0f ∷ zeros 11
+      (version_head ++ 3 ∷ 0xff ∷ 0xff ∷ 0xff ∷ 0xff ∷ 0x0f ∷ 0xff ∷ 0xff ∷ 0xff ∷ 0xff ∷ 0x7f ∷ zeros 11)
+  pub minus_one_written : file_bytes (record empty { ints = negsuc 0 ∷ [] }) ≡ version_head ++ 2 ∷ 0xff ∷ 0xff ∷ 0xff ∷ 0xff ∷ 0x0f ∷ zeros 11
   -- a program with names
-  pub hi_read : IsFile hi_file hi
-  pub hi_written : file_bytes hi_file ≡ hi
+  pub hi_read : IsFile hi_file file_hi
+  pub hi_written : file_bytes hi_file ≡ file_hi
   -- offsets and places count bytes as they were read, and are written as they count shorter ones: getlocal 0 has three bytes, and two
-  pub long_loop : IsFile loop_file (script (9 ∷ 0x62 ∷ 0x80 ∷ 0 ∷ 0x29 ∷ 0x10 ∷ 0xf7 ∷ 0xff ∷ 0xff ∷ []) (1 ∷ 1 ∷ 5 ∷ 0 ∷ 0 ∷ 0 ∷ 0 ∷ []))
-  pub loop_written : file_bytes loop_file ≡ script (9 ∷ 0x62 ∷ 0 ∷ 0x29 ∷ 0x10 ∷ 0xf8 ∷ 0xff ∷ 0xff ∷ []) (1 ∷ 1 ∷ 4 ∷ 0 ∷ 0 ∷ 0 ∷ 0 ∷ [])
+  pub long_loop : IsFile loop_file (script_bytes (9 ∷ 0x62 ∷ 0x80 ∷ 0 ∷ 0x29 ∷ 0x10 ∷ 0xf7 ∷ 0xff ∷ 0xff ∷ []) (1 ∷ 1 ∷ 5 ∷ 0 ∷ 0 ∷ 0 ∷ 0 ∷ []))
+  pub loop_written : file_bytes loop_file ≡ script_bytes (9 ∷ 0x62 ∷ 0 ∷ 0x29 ∷ 0x10 ∷ 0xf8 ∷ 0xff ∷ 0xff ∷ []) (1 ∷ 1 ∷ 4 ∷ 0 ∷ 0 ∷ 0 ∷ 0 ∷ [])
   -- pushbyte 0, and a switch whose offsets count from itself
   pub a_switch : IsFile (script_file (Byte (pos 0) ∷ Switch 2 (2 ∷ []) ∷ Plain 0x47 ∷ []) [])
-      (script (0x24 ∷ 0 ∷ 0x1b ∷ 8 ∷ 0 ∷ 0 ∷ 0 ∷ 8 ∷ 0 ∷ 0 ∷ 0x47 ∷ []) (zeros 2))
+      (script_bytes (0x24 ∷ 0 ∷ 0x1b ∷ 8 ∷ 0 ∷ 0 ∷ 0 ∷ 8 ∷ 0 ∷ 0 ∷ 0x47 ∷ []) (zeros 2))
   -- values that no bytes spell
   pub one_value : Fits one_value_file → ⊥
   pub no_string : Fits no_string_file → ⊥
@@ -100,38 +100,38 @@ pub record SpelledExamples : Type 0 where
 pub record RefusedExamples : Type 0 where
   -- a byte is needed and the input has ended
   pub nothing : IsBadFile [] (refusal 0 reasons.Short)
-  pub one_missing : IsBadFile (head ++ zeros 11) (refusal 15 reasons.Short)
+  pub one_missing : IsBadFile (version_head ++ zeros 11) (refusal 15 reasons.Short)
   -- a string of three bytes, of which one is there
-  pub long_string : IsBadFile (head ++ zeros 3 ++ 2 ∷ 3 ∷ 0x61 ∷ []) (refusal 10 reasons.Short)
+  pub long_string : IsBadFile (version_head ++ zeros 3 ++ 2 ∷ 3 ∷ 0x61 ∷ []) (refusal 10 reasons.Short)
   pub minor : IsBadFile (0x11 ∷ 0 ∷ 0x2e ∷ 0 ∷ zeros 12) (refusal 0 reasons.Version)
   pub major : IsBadFile (0x10 ∷ 0 ∷ 0x2f ∷ 0 ∷ zeros 12) (refusal 2 reasons.Version)
-  pub six_bytes : IsBadFile (head ++ 2 ∷ 0xff ∷ 0xff ∷ 0xff ∷ 0xff ∷ 0x8f ∷ zeros 11) (refusal 5 reasons.LongNumber)
-  pub too_big : IsBadFile (head ++ zeros 3 ++ 2 ∷ 0x80 ∷ 0x80 ∷ 0x80 ∷ 0x80 ∷ 4 ∷ []) (refusal 8 reasons.BigNumber)
+  pub six_bytes : IsBadFile (version_head ++ 2 ∷ 0xff ∷ 0xff ∷ 0xff ∷ 0xff ∷ 0x8f ∷ zeros 11) (refusal 5 reasons.LongNumber)
+  pub too_big : IsBadFile (version_head ++ zeros 3 ++ 2 ∷ 0x80 ∷ 0x80 ∷ 0x80 ∷ 0x80 ∷ 4 ∷ []) (refusal 8 reasons.BigNumber)
   -- a kind of names is none of namespaces, nor the other way round
-  pub namespace_kind : IsBadFile (head ++ zeros 4 ++ 2 ∷ 7 ∷ []) (refusal 9 reasons.NamespaceKind)
-  pub name_kind : IsBadFile (head ++ zeros 6 ++ 2 ∷ 8 ∷ []) (refusal 11 reasons.MultinameKind)
+  pub namespace_kind : IsBadFile (version_head ++ zeros 4 ++ 2 ∷ 7 ∷ []) (refusal 9 reasons.NamespaceKind)
+  pub name_kind : IsBadFile (version_head ++ zeros 6 ++ 2 ∷ 8 ∷ []) (refusal 11 reasons.MultinameKind)
   -- a type with parameters, whose base can't be 0
-  pub no_base : IsBadFile (head ++ zeros 6 ++ 2 ∷ 0x1d ∷ 0 ∷ []) (refusal 12 reasons.Index)
+  pub no_base : IsBadFile (version_head ++ zeros 6 ++ 2 ∷ 0x1d ∷ 0 ∷ []) (refusal 12 reasons.Index)
   -- one value for a method without parameters
-  pub more_values : IsBadFile (head ++ zeros 7 ++ 1 ∷ 0 ∷ 0 ∷ 0 ∷ 8 ∷ 1 ∷ []) (refusal 16 reasons.OptionCount)
+  pub more_values : IsBadFile (version_head ++ zeros 7 ++ 1 ∷ 0 ∷ 0 ∷ 0 ∷ 8 ∷ 1 ∷ []) (refusal 16 reasons.OptionCount)
   -- the string 4, where there is none: it is refused once its kind 1 is accepted, and the kind 2 is refused first
-  pub value_index : IsBadFile (head ++ zeros 7 ++ 1 ∷ 1 ∷ 0 ∷ 0 ∷ 0 ∷ 8 ∷ 1 ∷ 4 ∷ 1 ∷ []) (refusal 18 reasons.Index)
-  pub value_kind : IsBadFile (head ++ zeros 7 ++ 1 ∷ 1 ∷ 0 ∷ 0 ∷ 0 ∷ 8 ∷ 1 ∷ 4 ∷ 2 ∷ []) (refusal 19 reasons.OptionKind)
+  pub value_index : IsBadFile (version_head ++ zeros 7 ++ 1 ∷ 1 ∷ 0 ∷ 0 ∷ 0 ∷ 8 ∷ 1 ∷ 4 ∷ 1 ∷ []) (refusal 18 reasons.Index)
+  pub value_kind : IsBadFile (version_head ++ zeros 7 ++ 1 ∷ 1 ∷ 0 ∷ 0 ∷ 0 ∷ 8 ∷ 1 ∷ 4 ∷ 2 ∷ []) (refusal 19 reasons.OptionKind)
   -- a script with a trait, beside a name of no text
-  pub trait_kind : IsBadFile (head ++ zeros 6 ++ 2 ∷ 7 ∷ 0 ∷ 0 ∷ 1 ∷ zeros 4 ++ zeros 2 ++ 1 ∷ 0 ∷ 1 ∷ 1 ∷ 7 ∷ []) (refusal 25 reasons.TraitKind)
-  pub no_opcode : IsBadFile (script (1 ∷ []) (zeros 2)) (refusal 28 reasons.Opcode)
+  pub trait_kind : IsBadFile (version_head ++ zeros 6 ++ 2 ∷ 7 ∷ 0 ∷ 0 ∷ 1 ∷ zeros 4 ++ zeros 2 ++ 1 ∷ 0 ∷ 1 ∷ 1 ∷ 7 ∷ []) (refusal 25 reasons.TraitKind)
+  pub no_opcode : IsBadFile (script_bytes (1 ∷ []) (zeros 2)) (refusal 28 reasons.Opcode)
   -- 2^23 bytes of code
   pub long_code : IsBadFile (script_head ++ 0x80 ∷ 0x80 ∷ 0x80 ∷ 4 ∷ []) (refusal 27 reasons.CodeLength)
   -- getlocal without its operand, which the code's end cuts off; and so where the input ends there too
-  pub cut_off : IsBadFile (script (0x62 ∷ []) (zeros 2)) (refusal 28 reasons.CodeEnds)
-  pub cut_off_both : IsBadFile (script (0x62 ∷ []) []) (refusal 28 reasons.CodeEnds)
+  pub cut_off : IsBadFile (script_bytes (0x62 ∷ []) (zeros 2)) (refusal 28 reasons.CodeEnds)
+  pub cut_off_both : IsBadFile (script_bytes (0x62 ∷ []) []) (refusal 28 reasons.CodeEnds)
   -- into the switch itself; a bad opcode behind a bad target is told first, and a bad target before a bad exception
-  pub inside_switch : IsBadFile (script (0x24 ∷ 0 ∷ 0x1b ∷ 1 ∷ 0 ∷ 0 ∷ 0 ∷ 8 ∷ 0 ∷ 0 ∷ 0x47 ∷ []) (zeros 2)) (refusal 31 reasons.Target)
-  pub opcode_first : IsBadFile (script (0x10 ∷ 2 ∷ 0 ∷ 0 ∷ 1 ∷ []) (zeros 2)) (refusal 32 reasons.Opcode)
-  pub target_first : IsBadFile (script (0x10 ∷ 2 ∷ 0 ∷ 0 ∷ 0x47 ∷ []) (1 ∷ 1 ∷ [])) (refusal 29 reasons.Target)
+  pub inside_switch : IsBadFile (script_bytes (0x24 ∷ 0 ∷ 0x1b ∷ 1 ∷ 0 ∷ 0 ∷ 0 ∷ 8 ∷ 0 ∷ 0 ∷ 0x47 ∷ []) (zeros 2)) (refusal 31 reasons.Target)
+  pub opcode_first : IsBadFile (script_bytes (0x10 ∷ 2 ∷ 0 ∷ 0 ∷ 1 ∷ []) (zeros 2)) (refusal 32 reasons.Opcode)
+  pub target_first : IsBadFile (script_bytes (0x10 ∷ 2 ∷ 0 ∷ 0 ∷ 0x47 ∷ []) (1 ∷ 1 ∷ [])) (refusal 29 reasons.Target)
   -- an exception from the operand of getlocal on
-  pub mid_instruction : IsBadFile (script (0x62 ∷ 0 ∷ []) (1 ∷ 1 ∷ [])) (refusal 31 reasons.HandlerRange)
-  pub second_body : IsBadFile (head ++ zeros 7 ++ 1 ∷ zeros 7 ++ 2 ∷ zeros 9) (refusal 28 reasons.SecondBody)
-  pub one_more : IsBadFile (head ++ zeros 13) (refusal 16 reasons.Trailing)
+  pub mid_instruction : IsBadFile (script_bytes (0x62 ∷ 0 ∷ []) (1 ∷ 1 ∷ [])) (refusal 31 reasons.HandlerRange)
+  pub second_body : IsBadFile (version_head ++ zeros 7 ++ 1 ∷ zeros 7 ++ 2 ∷ zeros 9) (refusal 28 reasons.SecondBody)
+  pub one_more : IsBadFile (version_head ++ zeros 13) (refusal 16 reasons.Trailing)
   -- of a byte alone, since such a file is long
-  pub too_far : u8.bad (at limit (0 ∷ [])) (refusal limit reasons.FileTooLong)
+  pub too_far : u8.bad (at_of limit (0 ∷ [])) (refusal limit reasons.FileTooLong)

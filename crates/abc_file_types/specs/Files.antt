@@ -1,7 +1,7 @@
 -- The whole file (Overview, chapter 4, "abcFile"; profile: docs/FORMAT.md).
 use Rattle.std.specs.Prelude.{◌≡◌, ◌≢◌, ◌≤◌, ◌⊎◌, ℕ, List, [], ◌++◌, length, nat_eq}
 use Rattle.abc_file_types.specs.declared.reason.Reason.TheVariants as reasons
-use Rattle.abc_file_types.specs.Part.{Part, At, at, limit, Refusal, refusal, Begins, then_by, both, image, checked}
+use Rattle.abc_file_types.specs.Part.{Part, At, at_of, limit, Refusal, refusal, Begins, then_by, both, image, with_test}
 use Rattle.abc_file_types.specs.Numbers.{u16}
 use Rattle.abc_file_types.specs.Canonical.{u16_bytes}
 use Rattle.abc_file_types.specs.declared.tables.Abc.{Abc}
@@ -11,7 +11,7 @@ use Rattle.abc_file_types.specs.Bodies.{bodies, bodies_alone, bodies_bytes}
 
 -- minor version 16, and major version 46
 unfoldable pub version : Part (ℕ × ℕ)
-version = both (checked (λ n. nat_eq n 16) reasons.Version u16) (checked (λ n. nat_eq n 46) reasons.Version u16)
+version = both (with_test (λ n. nat_eq n 16) reasons.Version u16) (with_test (λ n. nat_eq n 46) reasons.Version u16)
 
 abbrev pub version_bytes : List ℕ
 version_bytes = u16_bytes 16 ++ u16_bytes 46
@@ -52,7 +52,7 @@ IsFileRead v b = file_read.spells v b × (length b ≤ limit)
 
 -- The input is refused at its first fault; a byte after a complete file is one.
 abbrev pub IsBadFile : List ℕ → Refusal → Type 0
-IsBadFile b r = file.bad (at 0 b) r ⊎ ((v : Abc) × (after : At) × Begins file (at 0 b) v after × (after.bytes ≢ []) × (r ≡ refusal after.place reasons.Trailing))
+IsBadFile b r = file.bad (at_of 0 b) r ⊎ ((v : Abc) × (after : At) × Begins file (at_of 0 b) v after × (after.bytes ≢ []) × (r ≡ refusal after.place reasons.Trailing))
 
 -- The bytes spell exactly one file, or are bad at exactly one place for exactly one reason, and never both.
 pub record IsDecided (b : List ℕ) : Type 0 where

@@ -4,7 +4,7 @@ use Rattle.std.specs.Prelude.{ℕ, ◌*◌, ◌/◌, List, [], ◌∷◌, ◌++�
 use Rattle.std.specs.List.{flat_map}
 use Rattle.abc_base.specs.Numbers.{number_bytes}
 use Rattle.abc_file_types.specs.declared.reason.Reason.TheVariants as reasons
-use Rattle.abc_file_types.specs.Part.{Part, then_by, both, image, checked, when}
+use Rattle.abc_file_types.specs.Part.{Part, then_by, both, image, with_test, when}
 use Rattle.abc_file_types.specs.Numbers.{u8, u30, pool_index}
 use Rattle.abc_file_types.specs.Lists.{times}
 use Rattle.abc_file_types.specs.Canonical.{counted_bytes}
@@ -62,7 +62,7 @@ value_kind_of k =
     else kinds.StaticProtected
 
 unfoldable pub value_kind : Part ValueKind
-value_kind = image value_kind_of (checked is_value_kind reasons.OptionKind u8)
+value_kind = image value_kind_of (with_test is_value_kind reasons.OptionKind u8)
 
 -- the pool that a kind names has the entry, or it names none
 abbrev pub has_value : Sizes → ℕ → ValueKind → Bool
@@ -84,7 +84,7 @@ has_value v n kinds.StaticProtected = nat_le n v.namespaces
 
 -- a value and its kind; the index is tested once the kind is accepted
 unfoldable pub option_value : Sizes → Part OptionValue
-option_value v = image (λ x. record { kind = x.1; value = x.0 }) (checked (λ x. has_value v x.0 x.1) reasons.Index (both u30 value_kind))
+option_value v = image (λ x. record { kind = x.1; value = x.0 }) (with_test (λ x. has_value v x.0 x.1) reasons.Index (both u30 value_kind))
 
 -- the canonical bytes of an optional value: its index, and then the byte of its kind
 unfoldable pub option_bytes : OptionValue → List ℕ
@@ -94,7 +94,7 @@ option_bytes o = number_bytes o.value ++ value_code o.kind ∷ []
 
 -- at most one value for each parameter
 unfoldable pub options : Sizes → ℕ → Part (List OptionValue)
-options v params = image (λ x. x.1) (then_by (checked (λ c. nat_le c params) reasons.OptionCount u30) (λ c. times c (option_value v)))
+options v params = image (λ x. x.1) (then_by (with_test (λ c. nat_le c params) reasons.OptionCount u30) (λ c. times c (option_value v)))
 
 -- the number of parameters, and the fields in their order
 abbrev pub method_in : ℕ × (ℕ × (List ℕ × (ℕ × (ℕ × (List OptionValue × List ℕ))))) → Method

@@ -5,7 +5,7 @@ use Rattle.std.specs.declared.result.Result.{Result}
 use Rattle.std.specs.List.{AllByRecursion}
 use Rattle.abc_base.specs.Numbers.{SpellsNumber, signed24}
 use Rattle.abc_file_types.specs.declared.reason.Reason.TheVariants as reasons
-use Rattle.abc_file_types.specs.Part.{At, Refusal, refusal, limit, ◌>>=◌, Part, Front, both, image, checked}
+use Rattle.abc_file_types.specs.Part.{At, Refusal, refusal, limit, ◌>>=◌, Part, Front, both, image, with_test}
 
 -- ---- one byte
 
@@ -56,7 +56,7 @@ number = record {
 
 -- a number of one to five bytes, which is below 2^30
 unfoldable pub u30 : Part ℕ
-u30 = checked (λ x. nat_lt x (2 ^ 30)) reasons.BigNumber number
+u30 = with_test (λ x. nat_lt x (2 ^ 30)) reasons.BigNumber number
 
 -- a number of one to five bytes, of which the low 32 bits count
 unfoldable pub u32 : Part ℕ
@@ -80,12 +80,12 @@ s24 = image (λ x. signed24 (x.0 % 256 + 256 * (x.1.0 % 256) + 65536 * (x.1.1 % 
 
 -- a position in a table of n entries that counts from 0
 unfoldable pub index_below : ℕ → Part ℕ
-index_below n = checked (λ x. nat_lt x n) reasons.Index u30
+index_below n = with_test (λ x. nat_lt x n) reasons.Index u30
 
 -- an index into a pool of n entries that count from 1, or 0, which names none of them
 unfoldable pub pool_index : ℕ → Part ℕ
-pool_index n = checked (λ x. nat_le x n) reasons.Index u30
+pool_index n = with_test (λ x. nat_le x n) reasons.Index u30
 
 -- an index into a pool of n entries that count from 1; 0 is refused
 unfoldable pub entry_index : ℕ → Part ℕ
-entry_index n = checked (λ x. nat_le 1 x && nat_le x n) reasons.Index u30
+entry_index n = with_test (λ x. nat_le 1 x && nat_le x n) reasons.Index u30

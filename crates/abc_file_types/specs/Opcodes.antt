@@ -10,8 +10,8 @@ use Rattle.abc_file_types.specs.declared.opcodes.OpInfo.{OpInfo}
 use Rattle.abc_file_types.specs.declared.op.TheConstants as op
 
 -- every opcode that an instruction has, and the instruction's name
-abbrev pub named : List (ℕ × List ℕ)
-named =
+abbrev pub names_of_opcodes : List (ℕ × List ℕ)
+names_of_opcodes =
     (op.NOP, codes "nop") ∷ (op.THROW, codes "throw") ∷ (op.GETSUPER, codes "getsuper") ∷ (op.SETSUPER, codes "setsuper") ∷ (op.DXNS, codes "dxns") ∷
     (op.DXNSLATE, codes "dxnslate") ∷ (op.KILL, codes "kill") ∷ (op.LABEL, codes "label") ∷ (op.IFNLT, codes "ifnlt") ∷ (op.IFNLE, codes "ifnle") ∷ (op.IFNGT, codes "ifngt") ∷
     (op.IFNGE, codes "ifnge") ∷ (op.JUMP, codes "jump") ∷ (op.IFTRUE, codes "iftrue") ∷ (op.IFFALSE, codes "iffalse") ∷ (op.IFEQ, codes "ifeq") ∷ (op.IFNE, codes "ifne") ∷
@@ -103,7 +103,7 @@ name_in (row ∷ rows) op = if nat_eq op row.0 then Some row.1 else name_in rows
 
 -- the instruction's name; an opcode that no instruction has, has none
 unfoldable pub name_at : ℕ → Option (List ℕ)
-name_at op = name_in named op
+name_at op = name_in names_of_opcodes op
 
 abbrev pub info_if : {A : Type 0} → Option A → ℕ → Option OpInfo
 info_if (Some name) op = Some (record { form = form_of op; pool = pool_of op })
@@ -111,7 +111,7 @@ info_if None op = None
 
 -- what the set of instructions says of an opcode; of one that no instruction has, nothing
 unfoldable pub info_at : ℕ → Option OpInfo
-info_at op = info_if (name_in named op) op
+info_at op = info_if (name_in names_of_opcodes op) op
 
 -- what follows the opcode
 abbrev pub form_in : Option OpInfo → Option Form

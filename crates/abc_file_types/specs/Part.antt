@@ -19,8 +19,8 @@ pub record Refusal : Type 0 where
 abbrev pub no_end : ℕ
 no_end = 2 ^ 25
 
-abbrev pub at : ℕ → List ℕ → At
-at n b = record { place = n; bytes = b; end = no_end }
+abbrev pub at_of : ℕ → List ℕ → At
+at_of n b = record { place = n; bytes = b; end = no_end }
 
 -- further on, with the same end
 abbrev pub further : At → ℕ → List ℕ → At
@@ -62,8 +62,8 @@ pub record Begins {A : Type 0} (p : Part A) (from : At) (x : A) (after : At) : T
   pub is : Front from front after
 
 -- nothing, for a value that is known
-abbrev pub done : {A : Type 0} → A → Part A
-done x = record {
+abbrev pub known_value : {A : Type 0} → A → Part A
+known_value x = record {
   spells = λ y b. (y ≡ x) × (b ≡ []);
   bad = λ from r. ⊥;
   reads = λ from. Ok (x, from);
@@ -90,28 +90,28 @@ image {A = A} f p = record {
 }
 
 -- a part whose value is tested once it is read; the refusal has the place of its first byte
-abbrev pub checked : {A : Type 0} → (A → Bool) → Reason → Part A → Part A
-checked {A = A} test reason p = record {
+abbrev pub with_test : {A : Type 0} → (A → Bool) → Reason → Part A → Part A
+with_test {A = A} test reason p = record {
   spells = λ x b. p.spells x b × (test x ≡ true);
   bad = λ from r. p.bad from r ⊎ ((x : A) × (after : At) × Begins p from x after × (test x ≡ false) × (r ≡ refusal from.place reason));
   reads = λ from. p.reads from >>= λ x. if test x.0 then Ok x else Err (refusal from.place reason);
 }
 
-abbrev pub moved : {B : Type 0} → ℕ → At → Result B Refusal → Result (B × At) Refusal
-moved place after (Ok y) = Ok (y, after)
-moved place after (Err e) = Err (refusal (place + e.place) e.reason)
+abbrev pub at_offset : {B : Type 0} → ℕ → At → Result B Refusal → Result (B × At) Refusal
+at_offset place after (Ok y) = Ok (y, after)
+at_offset place after (Err e) = Err (refusal (place + e.place) e.reason)
 
 -- a part whose value is looked into once it is read; it may be refused, at an offset from its first byte
-abbrev pub refined : {A B : Type 0} → (A → Result B Refusal) → Part A → Part B
-refined {A = A} f p = record {
+abbrev pub map_or_refuse : {A B : Type 0} → (A → Result B Refusal) → Part A → Part B
+map_or_refuse {A = A} f p = record {
   spells = λ y b. (x : A) × p.spells x b × (f x ≡ Ok y);
   bad = λ from r. p.bad from r ⊎ ((x : A) × (after : At) × Begins p from x after × (offset : Refusal) × (f x ≡ Err offset) × (r ≡ refusal (from.place + offset.place) offset.reason));
-  reads = λ from. p.reads from >>= λ x. moved from.place x.1 (f x.0);
+  reads = λ from. p.reads from >>= λ x. at_offset from.place x.1 (f x.0);
 }
 
 abbrev pub when_by : {A : Type 0} → Bool → A → Part A → Part A
 when_by true x p = p
-when_by false x p = done x
+when_by false x p = known_value x
 
 -- the part where a flag asks for it, and nothing, for a value that is known, where it does not
 unfoldable pub when : {A : Type 0} → Bool → A → Part A → Part A

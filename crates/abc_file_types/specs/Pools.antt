@@ -3,9 +3,9 @@
 use Rattle.std.specs.Prelude.{ℕ, ℤ, List, [], ◌∷◌, ◌++◌, length, Bool, true, false, nat_eq, ◌||◌, ◌&&◌, if◌then◌else◌}
 use Rattle.abc_base.specs.Numbers.{number_bytes}
 use Rattle.abc_file_types.specs.declared.reason.Reason.TheVariants as reasons
-use Rattle.abc_file_types.specs.Part.{Part, done, then_by, both, image, checked}
+use Rattle.abc_file_types.specs.Part.{Part, known_value, then_by, both, image, with_test}
 use Rattle.abc_file_types.specs.Numbers.{u8, u32, s32, pool_index, entry_index}
-use Rattle.abc_file_types.specs.Lists.{times, counted, pool, pool_by, text}
+use Rattle.abc_file_types.specs.Lists.{times, count_and_items, pool, pool_by, bytes_with_count}
 use Rattle.abc_file_types.specs.Canonical.{s32_bytes, counted_bytes, pool_bytes, text_bytes}
 use Rattle.abc_file_types.specs.declared.names.NsKind.{NsKind}
 use Rattle.abc_file_types.specs.declared.names.NsKind.TheVariants as spaces
@@ -49,7 +49,7 @@ namespace_kind_of k =
     else spaces.StaticProtected
 
 unfoldable pub namespace_kind : Part NsKind
-namespace_kind = image namespace_kind_of (checked is_namespace_kind reasons.NamespaceKind u8)
+namespace_kind = image namespace_kind_of (with_test is_namespace_kind reasons.NamespaceKind u8)
 
 -- a kind and a name, where there are so many strings
 unfoldable pub namespace : ℕ → Part Namespace
@@ -60,7 +60,7 @@ namespace_bytes n = namespace_code n.kind ∷ number_bytes n.name
 
 -- a count and that many namespaces
 unfoldable pub namespace_set : ℕ → Part (List ℕ)
-namespace_set spaces = counted (entry_index spaces)
+namespace_set spaces = count_and_items (entry_index spaces)
 
 -- ---- multinames
 
@@ -98,20 +98,20 @@ multiname_kind_of k =
     else kinds.TypeName
 
 abbrev pub multiname_kind_in : Bool → Part MultinameKind
-multiname_kind_in wide = image multiname_kind_of (checked (is_multiname_kind wide) reasons.MultinameKind u8)
+multiname_kind_in wide = image multiname_kind_of (with_test (is_multiname_kind wide) reasons.MultinameKind u8)
 
 unfoldable pub multiname_kind : Part MultinameKind
 multiname_kind = multiname_kind_in true
 
 -- a base, a count and that many parameters, where there are so many multinames in all
 abbrev pub type_fields : ℕ → Part (ℕ × List ℕ)
-type_fields all = both (entry_index all) (counted (pool_index all))
+type_fields all = both (entry_index all) (count_and_items (pool_index all))
 
 -- the fields of each kind, where there are so many strings, namespaces, sets and multinames
 abbrev pub multiname_fields : ℕ → ℕ → ℕ → ℕ → MultinameKind → Part Multiname
 multiname_fields strings spaces sets all (kinds.QName attr) = image (λ x. names.QName attr x.0 x.1) (both (pool_index spaces) (pool_index strings))
 multiname_fields strings spaces sets all (kinds.Rt attr) = image (λ x. names.Rt attr x) (pool_index strings)
-multiname_fields strings spaces sets all (kinds.RtL attr) = done (names.RtL attr)
+multiname_fields strings spaces sets all (kinds.RtL attr) = known_value (names.RtL attr)
 multiname_fields strings spaces sets all (kinds.Multi attr) = image (λ x. names.Multi attr x.0 x.1) (both (pool_index strings) (entry_index sets))
 multiname_fields strings spaces sets all (kinds.MultiL attr) = image (λ x. names.MultiL attr x) (entry_index sets)
 multiname_fields strings spaces sets all kinds.TypeName = image (λ x. names.TypeName x.0 x.1) (type_fields all)
@@ -177,7 +177,7 @@ with_pools (ints, (uints, (doubles, (strings, (namespaces, (sets, multinames))))
 abbrev pub pools_of : (ℕ → ℕ → ℕ → Part (List Multiname)) → Part Abc
 pools_of multinames =
     image with_pools
-    (both (pool s32) (both (pool u32) (both (pool double) (then_by (pool text) (λ strings.
+    (both (pool s32) (both (pool u32) (both (pool double) (then_by (pool bytes_with_count) (λ strings.
     then_by (pool (namespace (length strings))) (λ spaces.
     then_by (pool (namespace_set (length spaces))) (λ sets.
     multinames (length strings) (length spaces) (length sets))))))))

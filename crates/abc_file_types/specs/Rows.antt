@@ -9,8 +9,8 @@ use Rattle.abc_file_types.specs.declared.opcodes.OpInfo.{OpInfo}
 abbrev pub TableRow : Type 0
 TableRow = List ℕ × ℕ × Form × Pool
 
-abbrev pub name_in : Option TableRow → Option (List ℕ)
-name_in = option_map (λ row. take row.1 row.0)
+abbrev pub name_in_row : Option TableRow → Option (List ℕ)
+name_in_row = option_map (λ row. take row.1 row.0)
 
 abbrev pub info_in : Option TableRow → Option OpInfo
 info_in = option_map (λ row. record { form = row.2; pool = row.3 })

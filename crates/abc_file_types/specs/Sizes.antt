@@ -3,8 +3,8 @@ use Rattle.std.specs.Prelude.{◌^◌, min}
 use Rattle.abc_file_types.specs.declared.tables.Sizes.{Sizes}
 
 -- an index is below 2^30, so a greater size is as good as 2^30
-abbrev pub capped : Sizes → Sizes
-capped v = record {
+abbrev pub capped_sizes : Sizes → Sizes
+capped_sizes v = record {
   ints = min v.ints (2 ^ 30);
   uints = min v.uints (2 ^ 30);
   doubles = min v.doubles (2 ^ 30);

@@ -3,9 +3,9 @@ use Rattle.std.specs.Prelude.{ℕ, ◌+◌, ◌*◌, ◌%◌, ◌/◌, List, [],
 use Rattle.std.specs.declared.option.Option.{Option}
 use Rattle.abc_base.specs.Numbers.{number_bytes}
 use Rattle.abc_file_types.specs.declared.reason.Reason.TheVariants as reasons
-use Rattle.abc_file_types.specs.Part.{Part, then_by, both, image, checked, when}
+use Rattle.abc_file_types.specs.Part.{Part, then_by, both, image, with_test, when}
 use Rattle.abc_file_types.specs.Numbers.{u8, u30, index_below, pool_index, entry_index}
-use Rattle.abc_file_types.specs.Lists.{counted}
+use Rattle.abc_file_types.specs.Lists.{count_and_items}
 use Rattle.abc_file_types.specs.Canonical.{counted_bytes}
 use Rattle.abc_file_types.specs.declared.methods.ValueKind.{ValueKind}
 use Rattle.abc_file_types.specs.declared.methods.ValueKind.TheVariants as kinds
@@ -41,7 +41,7 @@ trait_kind_of k =
 
 -- the kind and the attributes
 unfoldable pub trait_kind : Part (TraitKind × ℕ)
-trait_kind = image (λ b. (trait_kind_of (b % 16), b / 16 % 16)) (checked (λ b. nat_le (b % 16) 6) reasons.TraitKind u8)
+trait_kind = image (λ b. (trait_kind_of (b % 16), b / 16 % 16)) (with_test (λ b. nat_le (b % 16) 6) reasons.TraitKind u8)
 
 -- ---- the fields of each kind
 
@@ -52,7 +52,7 @@ slot_value_of n kind = if nat_eq n 0 then None else Some (record { kind = kind; 
 unfoldable pub slot_value : Sizes → Part (Option OptionValue)
 slot_value v =
     image (λ x. slot_value_of x.0 x.1)
-    (checked (λ x. has_value v x.0 x.1) reasons.Index (then_by u30 (λ n. when (not (nat_eq n 0)) kinds.Undefined value_kind)))
+    (with_test (λ x. has_value v x.0 x.1) reasons.Index (then_by u30 (λ n. when (not (nat_eq n 0)) kinds.Undefined value_kind)))
 
 -- the canonical bytes of a slot's value: the index 0 where there is none, else its index and the byte of its kind
 abbrev pub slot_value_bytes : Option OptionValue → List ℕ
@@ -96,7 +96,7 @@ unfoldable pub trait_info : Sizes → Part TraitInfo
 trait_info v =
     image trait_in
     (both (entry_index v.names) (then_by trait_kind (λ k.
-    both (trait_fields v k.0) (when (has_flag k.1 4) [] (counted (index_below v.metadata))))))
+    both (trait_fields v k.0) (when (has_flag k.1 4) [] (count_and_items (index_below v.metadata))))))
 
 unfoldable pub trait_bytes : TraitInfo → List ℕ
 trait_bytes t =

@@ -1,6 +1,6 @@
 ghost use Rattle.std.specs.Prelude.{◌≡◌, option_map, take};
 ghost use Rattle.abc_file_types.specs.Opcodes.{info_at, name_at};
-ghost use Rattle.abc_file_types.specs.Rows.{info_in, name_in};
+ghost use Rattle.abc_file_types.specs.Rows.{info_in, name_in_row};
 ghost use Rattle.abc_file_types.specs.declared.opcodes.TheConstants.{OPCODES as rows_of_code};
 
 /// What follows an opcode: one form for each variant of `Instr`.
@@ -322,7 +322,7 @@ pub const OPCODES: [Option<Row>; 256] = [
 fn row_at<'a>(rows: &'a [Option<Row>; 256], op: u8) -> &'a Option<Row>
     requires { rows.now ≡ rows_of_code }
     ensures info { info_in result.now ≡ info_at op }
-    ensures name { name_in result.now ≡ name_at op }
+    ensures name { name_in_row result.now ≡ name_at op }
 {
     &rows[op as usize]
 }

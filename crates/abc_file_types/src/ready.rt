@@ -1,5 +1,5 @@
 ghost use Rattle.std.specs.Prelude.{◌≡◌, ◌↔◌, ◌≤◌, ◌<◌, ◌-◌, ◌^◌, All, IsTrue, MatchOption, Some, length, min};
-ghost use Rattle.abc_file_types.specs.Bodies.{IsReadyBody, IsWithin};
+ghost use Rattle.abc_file_types.specs.Bodies.{IsReadyBody, IsHandlerWithin};
 ghost use Rattle.abc_file_types.specs.CodeBytes.{code_len as total, instr_len as len_of};
 ghost use Rattle.abc_file_types.specs.Opcodes.{form_at};
 ghost use Rattle.abc_file_types.specs.Ready.{AllCanSpell, AllUpTo, CanSpell, IsReady};
@@ -34,7 +34,9 @@ fn are_within(targets: &[u32], count: usize) -> bool
 /// Whether a switch has some cases, and not too many, that lead to instructions or to the end.
 #[tactic(auto, using(crate::proofs::Readiness::up_to))]
 fn is_switch(default: u32, cases: &[u32], count: usize) -> bool
-    ensures { IsTrue result ↔ ((default ≤ count) × AllUpTo count cases.now × (0 < length cases.now) × (length cases.now ≤ 2 ^ 30)) }
+    ensures { IsTrue result
+        ↔ ((default ≤ count) × AllUpTo count cases.now × (0 < length cases.now)
+        × (length cases.now ≤ 2 ^ 30)) }
 {
     let some = 0 < cases.len() && cases.len() <= U30_LIMIT as usize;
     default as usize <= count && are_within(cases, count) && some
@@ -62,7 +64,8 @@ fn can_spell(instr: &Instr, count: usize) -> bool
 /// 2^64 - 1 where that is greater.
 #[inline(always)]
 fn spelled_len(instr: &Instr, count: usize) -> Option<u64>
-    ensures { MatchOption result (CanSpell count instr.now → ⊥) (λ n. CanSpell count instr.now × (n ≡ min (len_of instr.now) (2 ^ 64 - 1))) }
+    ensures { MatchOption result (CanSpell count instr.now → ⊥)
+        (λ n. CanSpell count instr.now × (n ≡ min (len_of instr.now) (2 ^ 64 - 1))) }
 {
     if !can_spell(instr, count) {
         return None;
@@ -72,7 +75,8 @@ fn spelled_len(instr: &Instr, count: usize) -> Option<u64>
 
 /// The same for all instructions, one after the other.
 fn spelled_code_len(code: &[Instr], count: usize) -> Option<u64>
-    ensures { MatchOption result (All (CanSpell count) code.now → ⊥) (λ n. All (CanSpell count) code.now × (n ≡ min (total code.now) (2 ^ 64 - 1))) }
+    ensures { MatchOption result (All (CanSpell count) code.now → ⊥)
+        (λ n. All (CanSpell count) code.now × (n ≡ min (total code.now) (2 ^ 64 - 1))) }
 {
     let mut len: u64 = 0;
     for instr in code {
@@ -105,7 +109,7 @@ pub fn is_ready(code: &Table<Instr>) -> bool
 }
 
 fn is_within(handler: &Handler, count: usize) -> bool
-    ensures { IsTrue result ↔ IsWithin count handler.now }
+    ensures { IsTrue result ↔ IsHandlerWithin count handler.now }
 {
     handler.from as usize <= count
         && handler.to as usize <= count
@@ -113,7 +117,7 @@ fn is_within(handler: &Handler, count: usize) -> bool
 }
 
 fn are_all_within(handlers: &[Handler], count: usize) -> bool
-    ensures { IsTrue result ↔ All (IsWithin count) handlers.now }
+    ensures { IsTrue result ↔ All (IsHandlerWithin count) handlers.now }
 {
     handlers.iter().all(|handler| is_within(handler, count))
 }
@@ -121,7 +125,8 @@ fn are_all_within(handlers: &[Handler], count: usize) -> bool
 /// How many bytes the body's code has in its canonical spelling, if some bytes spell it, and the body's exceptions name
 /// places in it.
 pub fn ready_len(body: &Body) -> Option<u64>
-    ensures { MatchOption result (IsReadyBody body.now → ⊥) (λ n. IsReadyBody body.now × (n ≡ total (body.now).code)) }
+    ensures { MatchOption result (IsReadyBody body.now → ⊥)
+        (λ n. IsReadyBody body.now × (n ≡ total (body.now).code)) }
 {
     let len = ready_code_len(&body.code)?;
     if !are_all_within(body.handlers.as_slice(), body.code.len()) {

@@ -1,7 +1,7 @@
 ghost use Rattle.std.specs.Prelude.{◌≡◌, ◌≤◌, ◌^◌, length, min};
 ghost use Rattle.abc_file_types.specs.Classes.{sizes_of as all_sizes};
 ghost use Rattle.abc_file_types.specs.Methods.{has_value as names_entry};
-ghost use Rattle.abc_file_types.specs.Sizes.{capped};
+ghost use Rattle.abc_file_types.specs.Sizes.{capped_sizes};
 
 use crate::methods::ValueKind;
 use crate::tables::{Abc, Sizes};
@@ -20,7 +20,7 @@ fn size_of<T: Drop>(items: &Table<T>) -> u32
 /// How many entries the tables have that indices name, each at most 2^30: an index is below 2^30, so it is tested
 /// against a greater size as against 2^30.
 pub fn sizes_of(abc: &Abc) -> Sizes
-    ensures { result ≡ capped (all_sizes abc.now) }
+    ensures { result ≡ capped_sizes (all_sizes abc.now) }
 {
     Sizes {
         ints: size_of(&abc.ints),

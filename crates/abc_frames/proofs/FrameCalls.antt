@@ -14,8 +14,8 @@ use Rattle.abc_frames.specs.declared.records.Marks.{Marks}
 use Rattle.abc_frames.specs.declared.records.Size.{Size}
 use Rattle.abc_frames.specs.declared.records.Wait.{Wait}
 use Rattle.abc_frames.specs.declared.records.Wait.TheVariants.{Not}
-use Rattle.abc_frames.specs.Frame.{Frame, Frames, newest, newest_size, with_newest, pushed, with_operand, dropped, dropped_under, with_local, with_scope, at_place, waiting, caught, arguments, entered, started, left, HasRoomFor, room_for, total, total_of_all}
-use Rattle.abc_frames.specs.Laid.{frame_of, sizes_in, frames_in, AreLaid, IsLaid, new_head, new_marks}
+use Rattle.abc_frames.specs.Frame.{Frame, Frames, newest, newest_size, with_newest, after_push, with_operand, after_drop, dropped_under, with_local, with_scope, at_place, waiting, after_catch, arguments, after_entry, frames_at_start, after_leave, HasRoomForFrame, room_for, total_size, total_of_all}
+use Rattle.abc_frames.specs.Laid.{frame_of, sizes_between, frames_in, AreFramesLaid, IsLaid, new_head, new_marks}
 use Rattle.abc_frames.proofs.Views.{mk, same_frames, length_living, operands_within, live_operands, locals_within, live_locals, live_scopes, scopes_within, live_size, live_scope_size, push_fits, scope_fits, catch_fits, push_view, scope_view, local_view, operand_view, cut_view, under_view, arguments_are, catch_view, new_frame, enter_view, new_sizes, used_is, newest_is, goes, waits, get_local, get_operand}
 
 -- ---- the lists stay laid
@@ -39,8 +39,8 @@ laid_scopes m w vs ss ts l a b = record {
 }
 
 -- frames whose list alone changes
-lists : (w : Filling Below) (h : Head) (m : ℕ) (fs gs : List Frame) → fs ≡ gs → mk fs (sizes_in h.marks (reverse w.items)) w.limit m ≡ mk gs (sizes_in h.marks (reverse w.items)) w.limit m
-lists w h m fs gs e = ap (λ ys. mk ys (sizes_in h.marks (reverse w.items)) w.limit m) e
+lists : (w : Filling Below) (h : Head) (m : ℕ) (fs gs : List Frame) → fs ≡ gs → mk fs (sizes_between h.marks (reverse w.items)) w.limit m ≡ mk gs (sizes_between h.marks (reverse w.items)) w.limit m
+lists w h m fs gs e = ap (λ ys. mk ys (sizes_between h.marks (reverse w.items)) w.limit m) e
 
 -- what lives waits over the ground
 pub live : (h : Head) (w : Filling Below) (vs : Filling Value) (ss : Filling ScopeEntry) → 0 < length (frames_in h w vs ss).living → 0 < length (reverse w.items)
@@ -63,7 +63,7 @@ push_laid h w vs ss v l b =
     let f = push_fits h (reverse w.items) vs.items ss.items l.newest.stack b in
     laid_values h.marks w vs ss (vs.items ++ v ∷ []) l (omega (arith, n, l.newest.stack)) (omega (arith, n, f))
 
-pub push_is : (h : Head) (w : Filling Below) (vs : Filling Value) (ss : Filling ScopeEntry) (v : Value) → IsLaid h.marks w vs ss → length (newest (frames_in h w vs ss)).stack < (newest_size (frames_in h w vs ss)).stack → frames_in h w (record { items = vs.items ++ v ∷ []; limit = vs.limit }) ss ≡ with_newest (pushed v) (frames_in h w vs ss)
+pub push_is : (h : Head) (w : Filling Below) (vs : Filling Value) (ss : Filling ScopeEntry) (v : Value) → IsLaid h.marks w vs ss → length (newest (frames_in h w vs ss)).stack < (newest_size (frames_in h w vs ss)).stack → frames_in h w (record { items = vs.items ++ v ∷ []; limit = vs.limit }) ss ≡ with_newest (after_push v) (frames_in h w vs ss)
 push_is h w vs ss v l b =
     let p : 0 < length (reverse w.items) = live_size h.marks (reverse w.items) (length (newest (frames_in h w vs ss)).stack) b in
     lists w h vs.limit _ _ (push_view h (reverse w.items) vs.items ss.items v l.newest l.laid p)
@@ -89,7 +89,7 @@ pop_laid h w vs us ss r e l b =
     let m : vs.limit ≡ us.limit = ap (λ (f : Filling Value). f.limit) e in
     rw m at (laid_values h.marks w vs ss us.items l p.stack (omega (arith, p.more, l.newest.stack_room)))
 
-pub pop_is : (h : Head) (w : Filling Below) (vs us : Filling Value) (ss : Filling ScopeEntry) (r : Value) → vs ≡ record { items = us.items ++ r ∷ []; limit = us.limit } → IsLaid h.marks w vs ss → 0 < length (newest (frames_in h w vs ss)).stack → frames_in h w vs ss ≡ with_newest (pushed r) (frames_in h w us ss)
+pub pop_is : (h : Head) (w : Filling Below) (vs us : Filling Value) (ss : Filling ScopeEntry) (r : Value) → vs ≡ record { items = us.items ++ r ∷ []; limit = us.limit } → IsLaid h.marks w vs ss → 0 < length (newest (frames_in h w vs ss)).stack → frames_in h w vs ss ≡ with_newest (after_push r) (frames_in h w us ss)
 pop_is h w vs us ss r e l b =
     let p : Pops h w vs us r = pops h w vs us ss r e l b in
     let m : IsLaid h.marks w us ss = pop_laid h w vs us ss r e l b in
@@ -121,7 +121,7 @@ cut_laid h w vs ss n l b =
     let k : length (take (length vs.items - n) vs.items) ≡ length vs.items - n = length-take-le (length vs.items - n) vs.items (omega arith) in
     laid_values h.marks w vs ss (take (length vs.items - n) vs.items) l (omega (arith, k, a)) (omega (arith, k, l.newest.stack_room))
 
-pub cut_is : (h : Head) (w : Filling Below) (vs : Filling Value) (ss : Filling ScopeEntry) (n : ℕ) → IsLaid h.marks w vs ss → n ≤ length (newest (frames_in h w vs ss)).stack → 0 < length (frames_in h w vs ss).living → frames_in h w (record { items = take (length vs.items - n) vs.items; limit = vs.limit }) ss ≡ with_newest (dropped n) (frames_in h w vs ss)
+pub cut_is : (h : Head) (w : Filling Below) (vs : Filling Value) (ss : Filling ScopeEntry) (n : ℕ) → IsLaid h.marks w vs ss → n ≤ length (newest (frames_in h w vs ss)).stack → 0 < length (frames_in h w vs ss).living → frames_in h w (record { items = take (length vs.items - n) vs.items; limit = vs.limit }) ss ≡ with_newest (after_drop n) (frames_in h w vs ss)
 cut_is h w vs ss n l b p =
     let a = operands_from h w vs ss n l b in
     lists w h vs.limit _ _ (cut_view h (reverse w.items) vs.items ss.items (length vs.items - n) n l.newest.locals l.laid (omega (arith, a)) (omega (arith, a)) (live h w vs ss p))
@@ -192,7 +192,7 @@ catch_laid h w vs ss v l b =
     let k : length (take h.marks.scopes_at ss.items) ≡ h.marks.scopes_at = length-take-le h.marks.scopes_at ss.items l.newest.scopes_from in
     laid_scopes h.marks w (record { items = take h.marks.stack_at vs.items ++ v ∷ []; limit = vs.limit }) ss (take h.marks.scopes_at ss.items) (laid_values h.marks w vs ss (take h.marks.stack_at vs.items ++ v ∷ []) l (omega (arith, n)) (omega (arith, n, f))) (omega (arith, k)) (omega (arith, k))
 
-pub catch_is : (h : Head) (w : Filling Below) (vs : Filling Value) (ss : Filling ScopeEntry) (v : Value) (target : ℕ) → IsLaid h.marks w vs ss → 0 < (newest_size (frames_in h w vs ss)).stack → frames_in (record h { place = target; wait = Not }) w (record { items = take h.marks.stack_at vs.items ++ v ∷ []; limit = vs.limit }) (record { items = take h.marks.scopes_at ss.items; limit = ss.limit }) ≡ with_newest (caught v target) (frames_in h w vs ss)
+pub catch_is : (h : Head) (w : Filling Below) (vs : Filling Value) (ss : Filling ScopeEntry) (v : Value) (target : ℕ) → IsLaid h.marks w vs ss → 0 < (newest_size (frames_in h w vs ss)).stack → frames_in (record h { place = target; wait = Not }) w (record { items = take h.marks.stack_at vs.items ++ v ∷ []; limit = vs.limit }) (record { items = take h.marks.scopes_at ss.items; limit = ss.limit }) ≡ with_newest (after_catch v target) (frames_in h w vs ss)
 catch_is h w vs ss v target l b =
     lists w h vs.limit _ _ (catch_view h (reverse w.items) vs.items ss.items v target l.newest l.laid (live_size h.marks (reverse w.items) 0 b))
 
@@ -200,22 +200,22 @@ catch_is h w vs ss v target l b =
 
 pub record HasPlace (m : Marks) (w : Filling Below) (vs : Filling Value) (s : Size) : Type 0 where
   pub frames : length w.items + 1 ≤ w.limit
-  pub values : m.used + total s ≤ vs.limit
+  pub values : m.used + total_size s ≤ vs.limit
 
-pub has_place : (h : Head) (w : Filling Below) (vs : Filling Value) (ss : Filling ScopeEntry) (s : Size) → IsLaid h.marks w vs ss → HasRoomFor (frames_in h w vs ss) s → HasPlace h.marks w vs s
+pub has_place : (h : Head) (w : Filling Below) (vs : Filling Value) (ss : Filling ScopeEntry) (s : Size) → IsLaid h.marks w vs ss → HasRoomForFrame (frames_in h w vs ss) s → HasPlace h.marks w vs s
 has_place h w vs ss s l r = record { frames = omega (arith, r.0, depth_is h w vs ss); values = omega (arith, r.1, used_is h.marks (reverse w.items) l.laid) }
 
 pub used_in : (h : Head) (w : Filling Below) (vs : Filling Value) (ss : Filling ScopeEntry) → IsLaid h.marks w vs ss → total_of_all (frames_in h w vs ss).sizes ≡ h.marks.used
 used_in h w vs ss l = used_is h.marks (reverse w.items) l.laid
 
-pub room_ok : (q : Frames) (s : Size) → length q.living + 1 ≤ q.frame_limit → total_of_all q.sizes + total s ≤ q.value_limit → room_for q s ≡ Ok tt
-room_ok q s a b = let x : nat_le (length q.living + 1) q.frame_limit ≡ true = grind (arith, nat_tests) in let y : nat_le (total_of_all q.sizes + total s) q.value_limit ≡ true = grind (arith, nat_tests) in rw (x, y) refl
+pub room_ok : (q : Frames) (s : Size) → length q.living + 1 ≤ q.frame_limit → total_of_all q.sizes + total_size s ≤ q.value_limit → room_for q s ≡ Ok tt
+room_ok q s a b = let x : nat_le (length q.living + 1) q.frame_limit ≡ true = grind (arith, nat_tests) in let y : nat_le (total_of_all q.sizes + total_size s) q.value_limit ≡ true = grind (arith, nat_tests) in rw (x, y) refl
 
 pub room_frames : (q : Frames) (s : Size) → q.frame_limit < length q.living + 1 → room_for q s ≡ Err (record { 0 = FrameLimit })
 room_frames q s a = let x : nat_le (length q.living + 1) q.frame_limit ≡ false = grind (arith, nat_tests) in rw x refl
 
-pub room_stack : (q : Frames) (s : Size) → length q.living + 1 ≤ q.frame_limit → q.value_limit < total_of_all q.sizes + total s → room_for q s ≡ Err (record { 0 = StackLimit })
-room_stack q s a b = let x : nat_le (length q.living + 1) q.frame_limit ≡ true = grind (arith, nat_tests) in let y : nat_le (total_of_all q.sizes + total s) q.value_limit ≡ false = grind (arith, nat_tests) in rw (x, y) refl
+pub room_stack : (q : Frames) (s : Size) → length q.living + 1 ≤ q.frame_limit → q.value_limit < total_of_all q.sizes + total_size s → room_for q s ≡ Err (record { 0 = StackLimit })
+room_stack q s a b = let x : nat_le (length q.living + 1) q.frame_limit ≡ true = grind (arith, nat_tests) in let y : nat_le (total_of_all q.sizes + total_size s) q.value_limit ≡ false = grind (arith, nat_tests) in rw (x, y) refl
 
 pub arguments_in : (h : Head) (w : Filling Below) (vs : Filling Value) (ss : Filling ScopeEntry) (n : ℕ) → IsLaid h.marks w vs ss → n ≤ length (newest (frames_in h w vs ss)).stack → drop (length vs.items - n) vs.items ≡ arguments n (newest (frames_in h w vs ss))
 arguments_in h w vs ss n l b = arguments_are h (reverse w.items) vs.items ss.items n l.newest.stack b
@@ -235,13 +235,13 @@ over_laid h w vs ss zs s at c wait l r a b d z =
       small = l.small;
     }
 
-pub over_is : (h : Head) (w : Filling Below) (vs : Filling Value) (ss : Filling ScopeEntry) (xs : List Value) (e : Entry) (at c n k : ℕ) (wait : Wait) (args : List Value) → IsLaid h.marks w vs ss → h.marks.stack_at ≤ c → c + n ≡ length vs.items → c ≤ length xs → at ≤ length xs → take c xs ≡ take c vs.items → drop at xs ≡ args → k ≡ length args → k ≤ e.size.locals → 0 < length (frames_in h w vs ss).living → frames_in (new_head h.marks e at (length ss.items)) (record { items = w.items ++ record { head = record h { wait = wait }; values = c; scopes = length ss.items } ∷ []; limit = w.limit }) (record { items = xs ++ replicate (e.size.locals - k) Undefined; limit = vs.limit }) ss ≡ entered e args n wait (frames_in h w vs ss)
+pub over_is : (h : Head) (w : Filling Below) (vs : Filling Value) (ss : Filling ScopeEntry) (xs : List Value) (e : Entry) (at c n k : ℕ) (wait : Wait) (args : List Value) → IsLaid h.marks w vs ss → h.marks.stack_at ≤ c → c + n ≡ length vs.items → c ≤ length xs → at ≤ length xs → take c xs ≡ take c vs.items → drop at xs ≡ args → k ≡ length args → k ≤ e.size.locals → 0 < length (frames_in h w vs ss).living → frames_in (new_head h.marks e at (length ss.items)) (record { items = w.items ++ record { head = record h { wait = wait }; values = c; scopes = length ss.items } ∷ []; limit = w.limit }) (record { items = xs ++ replicate (e.size.locals - k) Undefined; limit = vs.limit }) ss ≡ after_entry e args n wait (frames_in h w vs ss)
 over_is h w vs ss xs e at c n k wait args l a b d f g i j q p =
     let below : Below = record { head = record h { wait = wait }; values = c; scopes = length ss.items } in
     let last : reverse (w.items ++ below ∷ []) ≡ below ∷ reverse w.items = reverse-append w.items (below ∷ []) in
     rw last (same_frames _ _ _ _ w.limit vs.limit (enter_view h (reverse w.items) vs.items xs ss.items e at c n k wait args l.newest.locals l.laid a b d f g i j q (live h w vs ss p)) (new_sizes h (reverse w.items) e.size at (length ss.items) c wait))
 
-pub over_none : (h : Head) (w : Filling Below) (vs : Filling Value) (ss : Filling ScopeEntry) (xs : List Value) (e : Entry) (at c k : ℕ) (wait : Wait) (args : List Value) → at ≤ length xs → drop at xs ≡ args → k ≡ length args → k ≤ e.size.locals → (frames_in h w vs ss).living ≡ [] → frames_in (new_head h.marks e at (length ss.items)) (record { items = w.items ++ record { head = record h { wait = wait }; values = c; scopes = length ss.items } ∷ []; limit = w.limit }) (record { items = xs ++ replicate (e.size.locals - k) Undefined; limit = vs.limit }) ss ≡ started e args (frames_in h w vs ss)
+pub over_none : (h : Head) (w : Filling Below) (vs : Filling Value) (ss : Filling ScopeEntry) (xs : List Value) (e : Entry) (at c k : ℕ) (wait : Wait) (args : List Value) → at ≤ length xs → drop at xs ≡ args → k ≡ length args → k ≤ e.size.locals → (frames_in h w vs ss).living ≡ [] → frames_in (new_head h.marks e at (length ss.items)) (record { items = w.items ++ record { head = record h { wait = wait }; values = c; scopes = length ss.items } ∷ []; limit = w.limit }) (record { items = xs ++ replicate (e.size.locals - k) Undefined; limit = vs.limit }) ss ≡ frames_at_start e args (frames_in h w vs ss)
 over_none h w vs ss xs e at c k wait args f i j q none =
     let below : Below = record { head = record h { wait = wait }; values = c; scopes = length ss.items } in
     let last : reverse (w.items ++ below ∷ []) ≡ below ∷ reverse w.items = reverse-append w.items (below ∷ []) in
@@ -258,7 +258,7 @@ start_laid h w vs ss given s k wait l r e b =
     let n : length (vs.items ++ given) ≡ length vs.items + k = length-append vs.items given ∙ omega arith in
     over_laid h w vs ss ((vs.items ++ given) ++ replicate (s.locals - k) Undefined) s (length vs.items) (length vs.items) wait l r l.newest.stack (omega arith) (omega arith) (filled (vs.items ++ given) (length vs.items) s.locals k n b)
 
-pub start_is : (h : Head) (w : Filling Below) (vs : Filling Value) (ss : Filling ScopeEntry) (given : List Value) (e : Entry) (k : ℕ) → k ≡ length given → k ≤ e.size.locals → (frames_in h w vs ss).living ≡ [] → frames_in (new_head h.marks e (length vs.items) (length ss.items)) (record { items = w.items ++ record { head = record h { wait = Not }; values = length vs.items; scopes = length ss.items } ∷ []; limit = w.limit }) (record { items = (vs.items ++ given) ++ replicate (e.size.locals - k) Undefined; limit = vs.limit }) ss ≡ started e given (frames_in h w vs ss)
+pub start_is : (h : Head) (w : Filling Below) (vs : Filling Value) (ss : Filling ScopeEntry) (given : List Value) (e : Entry) (k : ℕ) → k ≡ length given → k ≤ e.size.locals → (frames_in h w vs ss).living ≡ [] → frames_in (new_head h.marks e (length vs.items) (length ss.items)) (record { items = w.items ++ record { head = record h { wait = Not }; values = length vs.items; scopes = length ss.items } ∷ []; limit = w.limit }) (record { items = (vs.items ++ given) ++ replicate (e.size.locals - k) Undefined; limit = vs.limit }) ss ≡ frames_at_start e given (frames_in h w vs ss)
 start_is h w vs ss given e k c b none =
     over_none h w vs ss (vs.items ++ given) e (length vs.items) (length vs.items) k Not given (omega (arith, length-append vs.items given)) (drop_at vs.items given (length vs.items) refl) c b none
 
@@ -267,7 +267,7 @@ pub enter_laid : (h : Head) (w : Filling Below) (vs : Filling Value) (ss : Filli
 enter_laid h w vs ss s n k wait l r a b =
     over_laid h w vs ss (vs.items ++ replicate (s.locals - n) Undefined) s (length vs.items - n) (length vs.items - n - k) wait l r (omega arith) (omega arith) (omega arith) (filled vs.items (length vs.items - n) s.locals n (omega arith) b)
 
-pub enter_is : (h : Head) (w : Filling Below) (vs : Filling Value) (ss : Filling ScopeEntry) (e : Entry) (n k : ℕ) (wait : Wait) → IsLaid h.marks w vs ss → n + k ≤ length (newest (frames_in h w vs ss)).stack → n ≤ e.size.locals → 0 < length (frames_in h w vs ss).living → frames_in (new_head h.marks e (length vs.items - n) (length ss.items)) (record { items = w.items ++ record { head = record h { wait = wait }; values = length vs.items - n - k; scopes = length ss.items } ∷ []; limit = w.limit }) (record { items = vs.items ++ replicate (e.size.locals - n) Undefined; limit = vs.limit }) ss ≡ entered e (arguments n (newest (frames_in h w vs ss))) (n + k) wait (frames_in h w vs ss)
+pub enter_is : (h : Head) (w : Filling Below) (vs : Filling Value) (ss : Filling ScopeEntry) (e : Entry) (n k : ℕ) (wait : Wait) → IsLaid h.marks w vs ss → n + k ≤ length (newest (frames_in h w vs ss)).stack → n ≤ e.size.locals → 0 < length (frames_in h w vs ss).living → frames_in (new_head h.marks e (length vs.items - n) (length ss.items)) (record { items = w.items ++ record { head = record h { wait = wait }; values = length vs.items - n - k; scopes = length ss.items } ∷ []; limit = w.limit }) (record { items = vs.items ++ replicate (e.size.locals - n) Undefined; limit = vs.limit }) ss ≡ after_entry e (arguments n (newest (frames_in h w vs ss))) (n + k) wait (frames_in h w vs ss)
 enter_is h w vs ss e n k wait l r b p =
     let a : h.marks.stack_at + (n + k) ≤ length vs.items = operands_from h w vs ss (n + k) l r in
     let d = arguments_in h w vs ss n l (omega arith) in
@@ -283,7 +283,7 @@ with_laid h w vs ss given s n k wait l r a e b =
     let at = length vs.items - n in
     over_laid h w vs ss ((take at vs.items ++ given) ++ replicate (s.locals - k) Undefined) s at at wait l r (omega arith) (omega arith) (omega arith) (filled (take at vs.items ++ given) at s.locals k (with_given vs.items given at k (omega arith) e) b)
 
-pub with_is : (h : Head) (w : Filling Below) (vs : Filling Value) (ss : Filling ScopeEntry) (given : List Value) (e : Entry) (n k : ℕ) (wait : Wait) → IsLaid h.marks w vs ss → n ≤ length (newest (frames_in h w vs ss)).stack → k ≡ length given → k ≤ e.size.locals → 0 < length (frames_in h w vs ss).living → frames_in (new_head h.marks e (length vs.items - n) (length ss.items)) (record { items = w.items ++ record { head = record h { wait = wait }; values = length vs.items - n; scopes = length ss.items } ∷ []; limit = w.limit }) (record { items = (take (length vs.items - n) vs.items ++ given) ++ replicate (e.size.locals - k) Undefined; limit = vs.limit }) ss ≡ entered e given n wait (frames_in h w vs ss)
+pub with_is : (h : Head) (w : Filling Below) (vs : Filling Value) (ss : Filling ScopeEntry) (given : List Value) (e : Entry) (n k : ℕ) (wait : Wait) → IsLaid h.marks w vs ss → n ≤ length (newest (frames_in h w vs ss)).stack → k ≡ length given → k ≤ e.size.locals → 0 < length (frames_in h w vs ss).living → frames_in (new_head h.marks e (length vs.items - n) (length ss.items)) (record { items = w.items ++ record { head = record h { wait = wait }; values = length vs.items - n; scopes = length ss.items } ∷ []; limit = w.limit }) (record { items = (take (length vs.items - n) vs.items ++ given) ++ replicate (e.size.locals - k) Undefined; limit = vs.limit }) ss ≡ after_entry e given n wait (frames_in h w vs ss)
 with_is h w vs ss given e n k wait l r c b p =
     let at = length vs.items - n in
     let a : h.marks.stack_at + n ≤ length vs.items = operands_from h w vs ss n l r in
@@ -295,7 +295,7 @@ with_is h w vs ss given e n k wait l r c b p =
 pub leave_laid : (h : Head) (w u : Filling Below) (b : Below) (vs : Filling Value) (ss : Filling ScopeEntry) → w ≡ record { items = u.items ++ b ∷ []; limit = u.limit } → IsLaid h.marks w vs ss → IsLaid b.head.marks u (record { items = take b.values vs.items; limit = vs.limit }) (record { items = take b.scopes ss.items; limit = ss.limit })
 leave_laid h w u b vs ss e l =
     let last : reverse w.items ≡ b ∷ reverse u.items = ap (λ (f : Filling Below). reverse f.items) e ∙ reverse-append u.items (b ∷ []) in
-    let laid : AreLaid h.marks (b ∷ reverse u.items) = rw last at l.laid in
+    let laid : AreFramesLaid h.marks (b ∷ reverse u.items) = rw last at l.laid in
     let o = laid.0 in
     let n : length (take b.values vs.items) ≡ b.values = length-take-le b.values vs.items (omega (arith, o.values, l.newest.locals, l.newest.stack)) in
     let k : length (take b.scopes ss.items) ≡ b.scopes = length-take-le b.scopes ss.items (omega (arith, o.scopes, l.newest.scopes_from)) in
@@ -307,7 +307,7 @@ leave_laid h w u b vs ss e l =
       small = l.small;
     }
 
-pub leave_is : (h : Head) (w u : Filling Below) (b : Below) (vs : Filling Value) (ss : Filling ScopeEntry) → w ≡ record { items = u.items ++ b ∷ []; limit = u.limit } → frames_in b.head u (record { items = take b.values vs.items; limit = vs.limit }) (record { items = take b.scopes ss.items; limit = ss.limit }) ≡ left (frames_in h w vs ss)
+pub leave_is : (h : Head) (w u : Filling Below) (b : Below) (vs : Filling Value) (ss : Filling ScopeEntry) → w ≡ record { items = u.items ++ b ∷ []; limit = u.limit } → frames_in b.head u (record { items = take b.values vs.items; limit = vs.limit }) (record { items = take b.scopes ss.items; limit = ss.limit }) ≡ after_leave (frames_in h w vs ss)
 leave_is h w u b vs ss e =
     let last : reverse (u.items ++ b ∷ []) ≡ b ∷ reverse u.items = reverse-append u.items (b ∷ []) in
     rw (e, last) refl

@@ -2,7 +2,7 @@
 use Rattle.std.proofs.Common.{◌≡◌, ◌<◌, ℕ, List, [], ◌∷◌, length, refl, subst, arith, Some, None}
 use Rattle.abc_heap_values.specs.declared.values.Value.{Value}
 use Rattle.abc_frames.specs.declared.records.Size.{Size}
-use Rattle.abc_frames.specs.Frame.{Frame, caught, first_size, newest_of, rest_of, under}
+use Rattle.abc_frames.specs.Frame.{Frame, after_catch, first_size, newest_of, rest_of, under}
 use Rattle.abc_frames.specs.Throws.{CanCatch, MayKeep, Targets, sizes_left, target_for, unwound}
 
 pub keeps : (t : Targets) (fs : List Frame) (ss : List Size) (target : ℕ) → CanCatch t fs ss → 0 < length fs → target_for t (newest_of fs) ≡ Some target → 0 < (first_size ss).stack
@@ -19,7 +19,7 @@ pub unwound_left : (t : Targets) (v : Value) (fs : List Frame) → 0 < length fs
 unwound_left t v [] b e = absurd (omega arith)
 unwound_left t v (f ∷ fs) b e = rw e refl
 
-pub unwound_caught : (t : Targets) (v : Value) (fs : List Frame) (target : ℕ) → 0 < length fs → target_for t (newest_of fs) ≡ Some target → caught v target (newest_of fs) ∷ under fs ≡ unwound t v fs
+pub unwound_caught : (t : Targets) (v : Value) (fs : List Frame) (target : ℕ) → 0 < length fs → target_for t (newest_of fs) ≡ Some target → after_catch v target (newest_of fs) ∷ under fs ≡ unwound t v fs
 unwound_caught t v [] target b e = absurd (omega arith)
 unwound_caught t v (f ∷ fs) target b e = rw e refl
 

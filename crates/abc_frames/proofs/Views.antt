@@ -11,8 +11,8 @@ use Rattle.abc_frames.specs.declared.records.Marks.{Marks}
 use Rattle.abc_frames.specs.declared.records.Size.{Size}
 use Rattle.abc_frames.specs.declared.records.Wait.{Wait}
 use Rattle.abc_frames.specs.declared.records.Wait.TheVariants.{Not}
-use Rattle.abc_frames.specs.Frame.{Frame, Frames, newest_of, first_size, under, pushed, with_operand, dropped, dropped_under, with_local, with_scope, at_place, waiting, caught, arguments, begun, total_of_all}
-use Rattle.abc_frames.specs.Laid.{frame_of, living_in, sizes_in, IsWithin, IsOver, AreLaid, new_head, new_marks}
+use Rattle.abc_frames.specs.Frame.{Frame, Frames, newest_of, first_size, under, after_push, with_operand, after_drop, dropped_under, with_local, with_scope, at_place, waiting, after_catch, arguments, frame_of_entry, total_of_all}
+use Rattle.abc_frames.specs.Laid.{frame_of, living_in, sizes_between, IsFrameWithin, IsOver, AreFramesLaid, new_head, new_marks}
 
 -- ---- lists
 
@@ -111,24 +111,24 @@ pub scopes_within : (h : Head) (bs : List Below) (vs : List Value) (ss : List Sc
 scopes_within h [] vs ss n a b = omega arith
 scopes_within h (x ∷ bs) vs ss n a b = omega (arith, length-drop h.marks.scopes_at ss)
 
-pub live_size : (m : Marks) (bs : List Below) (n : ℕ) → n < (first_size (sizes_in m bs)).stack → 0 < length bs
+pub live_size : (m : Marks) (bs : List Below) (n : ℕ) → n < (first_size (sizes_between m bs)).stack → 0 < length bs
 live_size m [] n b = absurd (omega arith)
 live_size m (x ∷ bs) n b = omega arith
 
-pub live_scope_size : (m : Marks) (bs : List Below) (n : ℕ) → n < (first_size (sizes_in m bs)).scopes → 0 < length bs
+pub live_scope_size : (m : Marks) (bs : List Below) (n : ℕ) → n < (first_size (sizes_between m bs)).scopes → 0 < length bs
 live_scope_size m [] n b = absurd (omega arith)
 live_scope_size m (x ∷ bs) n b = omega arith
 
 -- a value more, or a scope more, is within the size
-pub push_fits : (h : Head) (bs : List Below) (vs : List Value) (ss : List ScopeEntry) → h.marks.stack_at ≤ length vs → length (newest_of (living_in h bs vs ss)).stack < (first_size (sizes_in h.marks bs)).stack → length vs < h.marks.stack_at + h.marks.max_stack
+pub push_fits : (h : Head) (bs : List Below) (vs : List Value) (ss : List ScopeEntry) → h.marks.stack_at ≤ length vs → length (newest_of (living_in h bs vs ss)).stack < (first_size (sizes_between h.marks bs)).stack → length vs < h.marks.stack_at + h.marks.max_stack
 push_fits h [] vs ss a b = absurd (omega arith)
 push_fits h (x ∷ bs) vs ss a b = omega (arith, length-reverse (drop h.marks.stack_at vs), length-drop h.marks.stack_at vs)
 
-pub scope_fits : (h : Head) (bs : List Below) (vs : List Value) (ss : List ScopeEntry) → h.marks.scopes_at ≤ length ss → length (newest_of (living_in h bs vs ss)).scopes < (first_size (sizes_in h.marks bs)).scopes → length ss < h.marks.scopes_at + h.marks.max_scopes
+pub scope_fits : (h : Head) (bs : List Below) (vs : List Value) (ss : List ScopeEntry) → h.marks.scopes_at ≤ length ss → length (newest_of (living_in h bs vs ss)).scopes < (first_size (sizes_between h.marks bs)).scopes → length ss < h.marks.scopes_at + h.marks.max_scopes
 scope_fits h [] vs ss a b = absurd (omega arith)
 scope_fits h (x ∷ bs) vs ss a b = omega (arith, length-drop h.marks.scopes_at ss)
 
-pub catch_fits : (m : Marks) (bs : List Below) → 0 < (first_size (sizes_in m bs)).stack → 0 < m.max_stack
+pub catch_fits : (m : Marks) (bs : List Below) → 0 < (first_size (sizes_between m bs)).stack → 0 < m.max_stack
 catch_fits m [] b = absurd (omega arith)
 catch_fits m (x ∷ bs) b = b
 
@@ -141,7 +141,7 @@ below_same m b bs us vs ts ss o e f =
     let q : take b.scopes ts ≡ take b.scopes ss = agree b.scopes m.scopes_at ts ss o.scopes f in
     rw (p, q) refl
 
-pub push_view : (h : Head) (bs : List Below) (vs : List Value) (ss : List ScopeEntry) (v : Value) → IsWithin h.marks (length vs) (length ss) → AreLaid h.marks bs → 0 < length bs → living_in h bs (vs ++ v ∷ []) ss ≡ pushed v (newest_of (living_in h bs vs ss)) ∷ under (living_in h bs vs ss)
+pub push_view : (h : Head) (bs : List Below) (vs : List Value) (ss : List ScopeEntry) (v : Value) → IsFrameWithin h.marks (length vs) (length ss) → AreFramesLaid h.marks bs → 0 < length bs → living_in h bs (vs ++ v ∷ []) ss ≡ after_push v (newest_of (living_in h bs vs ss)) ∷ under (living_in h bs vs ss)
 push_view h [] vs ss v o l p = absurd (omega arith)
 push_view h (b ∷ bs) vs ss v o l p =
     let a : h.marks.locals_at ≤ length vs = omega (arith, o.locals, o.stack) in
@@ -150,14 +150,14 @@ push_view h (b ∷ bs) vs ss v o l p =
     let s = top_more h.marks.stack_at vs v o.stack in
     rw (u, t, s) refl
 
-pub scope_view : (h : Head) (bs : List Below) (vs : List Value) (ss : List ScopeEntry) (x : ScopeEntry) → h.marks.scopes_at ≤ length ss → AreLaid h.marks bs → 0 < length bs → living_in h bs vs (ss ++ x ∷ []) ≡ with_scope x (newest_of (living_in h bs vs ss)) ∷ under (living_in h bs vs ss)
+pub scope_view : (h : Head) (bs : List Below) (vs : List Value) (ss : List ScopeEntry) (x : ScopeEntry) → h.marks.scopes_at ≤ length ss → AreFramesLaid h.marks bs → 0 < length bs → living_in h bs vs (ss ++ x ∷ []) ≡ with_scope x (newest_of (living_in h bs vs ss)) ∷ under (living_in h bs vs ss)
 scope_view h [] vs ss x a l p = absurd (omega arith)
 scope_view h (b ∷ bs) vs ss x a l p =
     let u = below_same h.marks b bs vs vs (ss ++ x ∷ []) ss l.0 refl (take-append-le h.marks.scopes_at ss (x ∷ []) a) in
     let s = drop-append-le h.marks.scopes_at ss (x ∷ []) a in
     rw (u, s) refl
 
-pub local_view : (h : Head) (bs : List Below) (vs : List Value) (ss : List ScopeEntry) (n : ℕ) (v : Value) → AreLaid h.marks bs → h.marks.locals_at + n < h.marks.stack_at → 0 < length bs → living_in h bs (set vs (h.marks.locals_at + n) v) ss ≡ with_local n v (newest_of (living_in h bs vs ss)) ∷ under (living_in h bs vs ss)
+pub local_view : (h : Head) (bs : List Below) (vs : List Value) (ss : List ScopeEntry) (n : ℕ) (v : Value) → AreFramesLaid h.marks bs → h.marks.locals_at + n < h.marks.stack_at → 0 < length bs → living_in h bs (set vs (h.marks.locals_at + n) v) ss ≡ with_local n v (newest_of (living_in h bs vs ss)) ∷ under (living_in h bs vs ss)
 local_view h [] vs ss n v l a p = absurd (omega arith)
 local_view h (b ∷ bs) vs ss n v l a p =
     let u = below_same h.marks b bs (set vs (h.marks.locals_at + n) v) vs ss ss l.0 (take-set-le h.marks.locals_at vs (h.marks.locals_at + n) v (omega arith)) refl in
@@ -166,7 +166,7 @@ local_view h (b ∷ bs) vs ss n v l a p =
     let s = drop-set-lt h.marks.stack_at vs (h.marks.locals_at + n) v a in
     rw (u, t, d, s) refl
 
-pub operand_view : (h : Head) (bs : List Below) (vs : List Value) (ss : List ScopeEntry) (n : ℕ) (v : Value) → IsWithin h.marks (length vs) (length ss) → AreLaid h.marks bs → h.marks.stack_at + suc n ≤ length vs → 0 < length bs → living_in h bs (set vs (length vs - 1 - n) v) ss ≡ with_operand n v (newest_of (living_in h bs vs ss)) ∷ under (living_in h bs vs ss)
+pub operand_view : (h : Head) (bs : List Below) (vs : List Value) (ss : List ScopeEntry) (n : ℕ) (v : Value) → IsFrameWithin h.marks (length vs) (length ss) → AreFramesLaid h.marks bs → h.marks.stack_at + suc n ≤ length vs → 0 < length bs → living_in h bs (set vs (length vs - 1 - n) v) ss ≡ with_operand n v (newest_of (living_in h bs vs ss)) ∷ under (living_in h bs vs ss)
 operand_view h [] vs ss n v o l a p = absurd (omega arith)
 operand_view h (b ∷ bs) vs ss n v o l a p =
     let sa = h.marks.stack_at in
@@ -180,7 +180,7 @@ operand_view h (b ∷ bs) vs ss n v o l a p =
     rw (u, t, s) refl
 
 -- the top n operands leave
-pub cut_view : (h : Head) (bs : List Below) (vs : List Value) (ss : List ScopeEntry) (c n : ℕ) → h.marks.locals_at ≤ h.marks.stack_at → AreLaid h.marks bs → h.marks.stack_at ≤ c → c + n ≡ length vs → 0 < length bs → living_in h bs (take c vs) ss ≡ dropped n (newest_of (living_in h bs vs ss)) ∷ under (living_in h bs vs ss)
+pub cut_view : (h : Head) (bs : List Below) (vs : List Value) (ss : List ScopeEntry) (c n : ℕ) → h.marks.locals_at ≤ h.marks.stack_at → AreFramesLaid h.marks bs → h.marks.stack_at ≤ c → c + n ≡ length vs → 0 < length bs → living_in h bs (take c vs) ss ≡ after_drop n (newest_of (living_in h bs vs ss)) ∷ under (living_in h bs vs ss)
 cut_view h [] vs ss c n a l b e p = absurd (omega arith)
 cut_view h (x ∷ bs) vs ss c n a l b e p =
     let u = below_same h.marks x bs (take c vs) vs ss ss l.0 (take-take h.marks.locals_at c vs (omega arith)) refl in
@@ -189,7 +189,7 @@ cut_view h (x ∷ bs) vs ss c n a l b e p =
     rw (u, t, s) refl
 
 -- k operands leave from under the top n
-pub under_view : (h : Head) (bs : List Below) (vs : List Value) (ss : List ScopeEntry) (c n k : ℕ) → h.marks.locals_at ≤ h.marks.stack_at → AreLaid h.marks bs → h.marks.stack_at ≤ c → c + (n + k) ≡ length vs → 0 < length bs → living_in h bs (take c vs ++ drop (c + k) vs) ss ≡ dropped_under n k (newest_of (living_in h bs vs ss)) ∷ under (living_in h bs vs ss)
+pub under_view : (h : Head) (bs : List Below) (vs : List Value) (ss : List ScopeEntry) (c n k : ℕ) → h.marks.locals_at ≤ h.marks.stack_at → AreFramesLaid h.marks bs → h.marks.stack_at ≤ c → c + (n + k) ≡ length vs → 0 < length bs → living_in h bs (take c vs ++ drop (c + k) vs) ss ≡ dropped_under n k (newest_of (living_in h bs vs ss)) ∷ under (living_in h bs vs ss)
 under_view h [] vs ss c n k a l b e p = absurd (omega arith)
 under_view h (x ∷ bs) vs ss c n k a l b e p =
     let sa = h.marks.stack_at in
@@ -209,7 +209,7 @@ arguments_are h (x ∷ bs) vs ss n a b =
     let w : h.marks.stack_at + n ≤ length vs = operands_within h (x ∷ bs) vs ss n a b in
     sym (ap reverse (top_stack vs h.marks.stack_at (length vs - n) n (omega arith) (omega arith)) ∙ reverse-reverse (drop (length vs - n) vs))
 
-pub catch_view : (h : Head) (bs : List Below) (vs : List Value) (ss : List ScopeEntry) (v : Value) (target : ℕ) → IsWithin h.marks (length vs) (length ss) → AreLaid h.marks bs → 0 < length bs → living_in (record h { place = target; wait = Not }) bs (take h.marks.stack_at vs ++ v ∷ []) (take h.marks.scopes_at ss) ≡ caught v target (newest_of (living_in h bs vs ss)) ∷ under (living_in h bs vs ss)
+pub catch_view : (h : Head) (bs : List Below) (vs : List Value) (ss : List ScopeEntry) (v : Value) (target : ℕ) → IsFrameWithin h.marks (length vs) (length ss) → AreFramesLaid h.marks bs → 0 < length bs → living_in (record h { place = target; wait = Not }) bs (take h.marks.stack_at vs ++ v ∷ []) (take h.marks.scopes_at ss) ≡ after_catch v target (newest_of (living_in h bs vs ss)) ∷ under (living_in h bs vs ss)
 catch_view h [] vs ss v target o l p = absurd (omega arith)
 catch_view h (x ∷ bs) vs ss v target o l p =
     let sa = h.marks.stack_at in
@@ -229,7 +229,7 @@ catch_view h (x ∷ bs) vs ss v target o l p =
 
 -- ---- a method is entered
 
-pub new_frame : (m : Marks) (e : Entry) (at : ℕ) (xs : List Value) (ss : List ScopeEntry) (args : List Value) (k : ℕ) → at ≤ length xs → drop at xs ≡ args → k ≡ length args → k ≤ e.size.locals → frame_of (new_head m e at (length ss)) (xs ++ replicate (e.size.locals - k) Undefined) ss ≡ begun e args
+pub new_frame : (m : Marks) (e : Entry) (at : ℕ) (xs : List Value) (ss : List ScopeEntry) (args : List Value) (k : ℕ) → at ≤ length xs → drop at xs ≡ args → k ≡ length args → k ≤ e.size.locals → frame_of (new_head m e at (length ss)) (xs ++ replicate (e.size.locals - k) Undefined) ss ≡ frame_of_entry e args
 new_frame m e at xs ss args k a d c b =
     let lc = e.size.locals in
     let us = replicate (lc - k) Undefined in
@@ -248,17 +248,17 @@ waits h [] vs ss w p = absurd (omega arith)
 waits h (x ∷ bs) vs ss w p = refl
 
 -- over a frame whose top n operands leave
-pub enter_view : (h : Head) (bs : List Below) (vs xs : List Value) (ss : List ScopeEntry) (e : Entry) (at c n k : ℕ) (w : Wait) (args : List Value) → h.marks.locals_at ≤ h.marks.stack_at → AreLaid h.marks bs → h.marks.stack_at ≤ c → c + n ≡ length vs → c ≤ length xs → at ≤ length xs → take c xs ≡ take c vs → drop at xs ≡ args → k ≡ length args → k ≤ e.size.locals → 0 < length bs → living_in (new_head h.marks e at (length ss)) (record { head = record h { wait = w }; values = c; scopes = length ss } ∷ bs) (xs ++ replicate (e.size.locals - k) Undefined) ss ≡ begun e args ∷ waiting w (dropped n (newest_of (living_in h bs vs ss))) ∷ under (living_in h bs vs ss)
+pub enter_view : (h : Head) (bs : List Below) (vs xs : List Value) (ss : List ScopeEntry) (e : Entry) (at c n k : ℕ) (w : Wait) (args : List Value) → h.marks.locals_at ≤ h.marks.stack_at → AreFramesLaid h.marks bs → h.marks.stack_at ≤ c → c + n ≡ length vs → c ≤ length xs → at ≤ length xs → take c xs ≡ take c vs → drop at xs ≡ args → k ≡ length args → k ≤ e.size.locals → 0 < length bs → living_in (new_head h.marks e at (length ss)) (record { head = record h { wait = w }; values = c; scopes = length ss } ∷ bs) (xs ++ replicate (e.size.locals - k) Undefined) ss ≡ frame_of_entry e args ∷ waiting w (after_drop n (newest_of (living_in h bs vs ss))) ∷ under (living_in h bs vs ss)
 enter_view h bs vs xs ss e at c n k w args a l b s r q t d f g p =
     let us = replicate (e.size.locals - k) Undefined in
     let first = new_frame h.marks e at xs ss args k q d f g in
     let cut : take c (xs ++ us) ≡ take c vs = take-append-le c xs us r ∙ t in
     let whole : take (length ss) ss ≡ ss = take_all (length ss) ss (omega arith) in
     let v = cut_view h bs vs ss c n a l b s p in
-    let rest : living_in (record h { wait = w }) bs (take c (xs ++ us)) (take (length ss) ss) ≡ waiting w (dropped n (newest_of (living_in h bs vs ss))) ∷ under (living_in h bs vs ss) = ap (λ ys. living_in (record h { wait = w }) bs ys (take (length ss) ss)) cut ∙ ap (λ ys. living_in (record h { wait = w }) bs (take c vs) ys) whole ∙ waits h bs (take c vs) ss w p ∙ ap (λ gs. waiting w (newest_of gs) ∷ under gs) v in
-    ap (λ y. y ∷ living_in (record h { wait = w }) bs (take c (xs ++ us)) (take (length ss) ss)) first ∙ ap (λ ys. begun e args ∷ ys) rest
+    let rest : living_in (record h { wait = w }) bs (take c (xs ++ us)) (take (length ss) ss) ≡ waiting w (after_drop n (newest_of (living_in h bs vs ss))) ∷ under (living_in h bs vs ss) = ap (λ ys. living_in (record h { wait = w }) bs ys (take (length ss) ss)) cut ∙ ap (λ ys. living_in (record h { wait = w }) bs (take c vs) ys) whole ∙ waits h bs (take c vs) ss w p ∙ ap (λ gs. waiting w (newest_of gs) ∷ under gs) v in
+    ap (λ y. y ∷ living_in (record h { wait = w }) bs (take c (xs ++ us)) (take (length ss) ss)) first ∙ ap (λ ys. frame_of_entry e args ∷ ys) rest
 
-pub new_sizes : (h : Head) (bs : List Below) (s : Size) (at sc c : ℕ) (w : Wait) → sizes_in (new_marks h.marks s at sc) (record { head = record h { wait = w }; values = c; scopes = sc } ∷ bs) ≡ s ∷ sizes_in h.marks bs
+pub new_sizes : (h : Head) (bs : List Below) (s : Size) (at sc c : ℕ) (w : Wait) → sizes_between (new_marks h.marks s at sc) (record { head = record h { wait = w }; values = c; scopes = sc } ∷ bs) ≡ s ∷ sizes_between h.marks bs
 new_sizes h bs s at sc c w =
     let e : at + s.locals - at ≡ s.locals = omega arith in
     rw e refl
@@ -271,7 +271,7 @@ same_frames fs gs ss ts frames values p q = ap (λ ys. mk ys ss frames values) p
 
 -- ---- room
 
-pub used_is : (m : Marks) (bs : List Below) → AreLaid m bs → total_of_all (sizes_in m bs) ≡ m.used
+pub used_is : (m : Marks) (bs : List Below) → AreFramesLaid m bs → total_of_all (sizes_between m bs) ≡ m.used
 used_is m [] l = sym l
 used_is m (b ∷ bs) l = omega (arith, used_is b.head.marks bs l.1, l.0.used)
 

@@ -64,16 +64,16 @@ newest_size q = first_size q.sizes
 -- ---- what is done to a frame
 
 -- the frame with v as one more operand, on top
-abbrev pub pushed : Value → Frame → Frame
-pushed v f = record f { stack = v ∷ f.stack }
+abbrev pub after_push : Value → Frame → Frame
+after_push v f = record f { stack = v ∷ f.stack }
 
 -- the frame with v in place of operand n, counted from the top, which is 0
 abbrev pub with_operand : ℕ → Value → Frame → Frame
 with_operand n v f = record f { stack = set f.stack n v }
 
 -- the frame without its top n operands
-abbrev pub dropped : ℕ → Frame → Frame
-dropped n f = record f { stack = drop n f.stack }
+abbrev pub after_drop : ℕ → Frame → Frame
+after_drop n f = record f { stack = drop n f.stack }
 
 -- k operands leave from under the top n
 abbrev pub dropped_under : (n k : ℕ) → Frame → Frame
@@ -96,8 +96,8 @@ abbrev pub waiting : Wait → Frame → Frame
 waiting wait f = record f { wait = wait }
 
 -- a handler goes on with the value alone on the stack and without scopes
-abbrev pub caught : Value → (target : ℕ) → Frame → Frame
-caught v target f = record f { stack = v ∷ []; scopes = []; place = target; wait = Not }
+abbrev pub after_catch : Value → (target : ℕ) → Frame → Frame
+after_catch v target f = record f { stack = v ∷ []; scopes = []; place = target; wait = Not }
 
 -- the newest changes, and no other
 abbrev pub with_newest : (Frame → Frame) → Frames → Frames
@@ -105,22 +105,22 @@ with_newest g q = record q { living = g (newest q) ∷ under q.living }
 
 -- ---- room: one frame, and the values that it may keep
 
-abbrev pub total : Size → ℕ
-total s = s.locals + s.stack + s.scopes
+abbrev pub total_size : Size → ℕ
+total_size s = s.locals + s.stack + s.scopes
 
 abbrev pub total_of_all : List Size → ℕ
 total_of_all [] = 0
-total_of_all (s ∷ ss) = total s + total_of_all ss
+total_of_all (s ∷ ss) = total_size s + total_of_all ss
 
 -- one more frame of this size is within both limits
-abbrev pub HasRoomFor : Frames → Size → Type 0
-HasRoomFor q s = (length q.living + 1 ≤ q.frame_limit) × (total_of_all q.sizes + total s ≤ q.value_limit)
+abbrev pub HasRoomForFrame : Frames → Size → Type 0
+HasRoomForFrame q s = (length q.living + 1 ≤ q.frame_limit) × (total_of_all q.sizes + total_size s ≤ q.value_limit)
 
 -- frames are tried first
 abbrev pub room_for : Frames → Size → Result Unit Full
 room_for q s =
     if nat_le (length q.living + 1) q.frame_limit
-    then (if nat_le (total_of_all q.sizes + total s) q.value_limit then Ok tt else Err (record { 0 = StackLimit }))
+    then (if nat_le (total_of_all q.sizes + total_size s) q.value_limit then Ok tt else Err (record { 0 = StackLimit }))
     else Err (record { 0 = FrameLimit })
 
 -- ---- a method is entered: its first locals are given, the others are undefined
@@ -128,16 +128,16 @@ room_for q s =
 abbrev pub locals_of : (count : ℕ) → List Value → List Value
 locals_of count vs = take count (vs ++ replicate count Undefined)
 
-abbrev pub begun : Entry → List Value → Frame
-begun e vs = record { method = e.method; home = e.home; saved = e.saved; stack = []; scopes = []; locals = locals_of e.size.locals vs; place = 0; wait = Not }
+abbrev pub frame_of_entry : Entry → List Value → Frame
+frame_of_entry e vs = record { method = e.method; home = e.home; saved = e.saved; stack = []; scopes = []; locals = locals_of e.size.locals vs; place = 0; wait = Not }
 
 -- over no frame
-abbrev pub started : Entry → List Value → Frames → Frames
-started e vs q = record q { living = begun e vs ∷ []; sizes = e.size ∷ [] }
+abbrev pub frames_at_start : Entry → List Value → Frames → Frames
+frames_at_start e vs q = record q { living = frame_of_entry e vs ∷ []; sizes = e.size ∷ [] }
 
 -- over the newest, whose top n operands leave, and which waits
-abbrev pub entered : Entry → List Value → (n : ℕ) → Wait → Frames → Frames
-entered e vs n wait q = record q { living = begun e vs ∷ waiting wait (dropped n (newest q)) ∷ under q.living; sizes = e.size ∷ q.sizes }
+abbrev pub after_entry : Entry → List Value → (n : ℕ) → Wait → Frames → Frames
+after_entry e vs n wait q = record q { living = frame_of_entry e vs ∷ waiting wait (after_drop n (newest q)) ∷ under q.living; sizes = e.size ∷ q.sizes }
 
 -- the top n operands, the one that was pushed first first
 abbrev pub arguments : ℕ → Frame → List Value
@@ -150,5 +150,5 @@ rest_of [] = []
 rest_of (s ∷ ss) = ss
 
 -- the frames without the newest
-abbrev pub left : Frames → Frames
-left q = record q { living = under q.living; sizes = rest_of q.sizes }
+abbrev pub after_leave : Frames → Frames
+after_leave q = record q { living = under q.living; sizes = rest_of q.sizes }

@@ -9,7 +9,7 @@ use Rattle.abc_frames.specs.declared.records.Head.{Head}
 use Rattle.abc_frames.specs.declared.records.Marks.{Marks}
 use Rattle.abc_frames.specs.declared.records.Size.{Size}
 use Rattle.abc_frames.specs.declared.records.Wait.TheVariants.{Not}
-use Rattle.abc_frames.specs.Frame.{Frame, Frames, total}
+use Rattle.abc_frames.specs.Frame.{Frame, Frames, total_size}
 
 -- ---- what contracts see
 
@@ -22,20 +22,20 @@ abbrev pub living_in : Head → List Below → List Value → List ScopeEntry �
 living_in h [] vs ss = []
 living_in h (b ∷ bs) vs ss = frame_of h vs ss ∷ living_in b.head bs (take b.values vs) (take b.scopes ss)
 
-abbrev pub size_of : Marks → Size
-size_of m = record { locals = m.stack_at - m.locals_at; stack = m.max_stack; scopes = m.max_scopes }
+abbrev pub size_between : Marks → Size
+size_between m = record { locals = m.stack_at - m.locals_at; stack = m.max_stack; scopes = m.max_scopes }
 
-abbrev pub sizes_in : Marks → List Below → List Size
-sizes_in m [] = []
-sizes_in m (b ∷ bs) = size_of m ∷ sizes_in b.head.marks bs
+abbrev pub sizes_between : Marks → List Below → List Size
+sizes_between m [] = []
+sizes_between m (b ∷ bs) = size_between m ∷ sizes_between b.head.marks bs
 
 abbrev pub frames_in : Head → Filling Below → Filling Value → Filling ScopeEntry → Frames
-frames_in h below values scopes = record { living = living_in h (reverse below.items) values.items scopes.items; sizes = sizes_in h.marks (reverse below.items); frame_limit = below.limit; value_limit = values.limit }
+frames_in h below values scopes = record { living = living_in h (reverse below.items) values.items scopes.items; sizes = sizes_between h.marks (reverse below.items); frame_limit = below.limit; value_limit = values.limit }
 
 -- ---- how they lie
 
 -- a frame whose operands end at one position and its scopes at another
-pub record IsWithin (m : Marks) (values scopes : ℕ) : Type 0 where
+pub record IsFrameWithin (m : Marks) (values scopes : ℕ) : Type 0 where
   pub locals : m.locals_at ≤ m.stack_at
   pub stack : m.stack_at ≤ values
   pub stack_room : values ≤ m.stack_at + m.max_stack
@@ -47,16 +47,16 @@ pub record IsWithin (m : Marks) (values scopes : ℕ) : Type 0 where
 pub record IsOver (m : Marks) (b : Below) : Type 0 where
   pub values : b.values ≤ m.locals_at
   pub scopes : b.scopes ≤ m.scopes_at
-  pub used : m.used ≡ total (size_of m) + b.head.marks.used
-  pub within : IsWithin b.head.marks b.values b.scopes
+  pub used : m.used ≡ total_size (size_between m) + b.head.marks.used
+  pub within : IsFrameWithin b.head.marks b.values b.scopes
 
-abbrev pub AreLaid : Marks → List Below → Type 0
-AreLaid m [] = m.used ≡ 0
-AreLaid m (b ∷ bs) = IsOver m b × AreLaid b.head.marks bs
+abbrev pub AreFramesLaid : Marks → List Below → Type 0
+AreFramesLaid m [] = m.used ≡ 0
+AreFramesLaid m (b ∷ bs) = IsOver m b × AreFramesLaid b.head.marks bs
 
 pub record IsLaid (m : Marks) (below : Filling Below) (values : Filling Value) (scopes : Filling ScopeEntry) : Type 0 where
-  pub newest : IsWithin m (length values.items) (length scopes.items)
-  pub laid : AreLaid m (reverse below.items)
+  pub newest : IsFrameWithin m (length values.items) (length scopes.items)
+  pub laid : AreFramesLaid m (reverse below.items)
   pub used : m.used ≤ values.limit
   pub limit : scopes.limit ≡ values.limit
   pub small : values.limit < 2 ^ 32
@@ -68,7 +68,7 @@ ground_head = record { method = 0; home = 0; saved = None; place = 0; wait = Not
 
 -- over a frame, from these places on
 abbrev pub new_marks : Marks → Size → ℕ → ℕ → Marks
-new_marks m s locals_at scopes_at = record { locals_at = locals_at; stack_at = locals_at + s.locals; scopes_at = scopes_at; max_stack = s.stack; max_scopes = s.scopes; used = m.used + total s }
+new_marks m s locals_at scopes_at = record { locals_at = locals_at; stack_at = locals_at + s.locals; scopes_at = scopes_at; max_stack = s.stack; max_scopes = s.scopes; used = m.used + total_size s }
 
 abbrev pub new_head : Marks → Entry → ℕ → ℕ → Head
 new_head m e locals_at scopes_at = record { method = e.method; home = e.home; saved = e.saved; place = 0; wait = Not; marks = new_marks m e.size locals_at scopes_at }

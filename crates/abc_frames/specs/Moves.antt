@@ -3,7 +3,7 @@ use Rattle.std.specs.Prelude.{ℕ, ◌+◌, ◌-◌, List, [], ◌∷◌, ◌++�
 use Rattle.abc_heap_values.specs.declared.values.ObjId.{ObjId}
 use Rattle.abc_heap_values.specs.declared.values.Value.{Value}
 use Rattle.abc_heap_values.specs.declared.values.Value.TheVariants.{Undefined, Null, Num, Bool as Truth, Text, Space, Obj}
-use Rattle.abc_frames.specs.Frame.{Frame, Frames, newest, with_newest, at_place, dropped, with_local, with_scope, waiting}
+use Rattle.abc_frames.specs.Frame.{Frame, Frames, newest, with_newest, at_place, after_drop, with_local, with_scope, waiting}
 use Rattle.abc_frames.specs.declared.records.Wait.{Wait}
 use Rattle.abc_frames.specs.declared.records.Wait.TheVariants.{Not, Push, Drop, Keep, Again, New}
 
@@ -19,51 +19,51 @@ next_with vs f = record f { stack = vs ++ f.stack; place = f.place + 1 }
 
 -- ---- what is taken: the top, and what is under it
 
-abbrev pub first_of : List Value → Value
-first_of [] = Undefined
-first_of (v ∷ vs) = v
+abbrev pub first_value : List Value → Value
+first_value [] = Undefined
+first_value (v ∷ vs) = v
 
 -- the top operand
 abbrev pub top : Frame → Value
-top f = first_of f.stack
+top f = first_value f.stack
 
-abbrev pub second : Frame → Value
-second f = first_of (drop 1 f.stack)
+abbrev pub second_value : Frame → Value
+second_value f = first_value (drop 1 f.stack)
 
 -- ---- operands and locals
 
 -- pop: the top operand is taken, and the frame goes on
-abbrev pub popped : Frame → Frame
-popped f = next (dropped 1 f)
+abbrev pub after_pop : Frame → Frame
+after_pop f = next (after_drop 1 f)
 
 -- dup: the top operand is there twice
-abbrev pub duplicated : Frame → Frame
-duplicated f = next_with (top f ∷ top f ∷ []) (dropped 1 f)
+abbrev pub after_dup : Frame → Frame
+after_dup f = next_with (top f ∷ top f ∷ []) (after_drop 1 f)
 
 -- swap: the top two operands change places
-abbrev pub swapped : Frame → Frame
-swapped f = next_with (second f ∷ top f ∷ []) (dropped 2 f)
+abbrev pub after_swap : Frame → Frame
+after_swap f = next_with (second_value f ∷ top f ∷ []) (after_drop 2 f)
 
 -- setlocal: the top operand goes into local n
-abbrev pub stored : ℕ → Frame → Frame
-stored n f = next (with_local n (top f) (dropped 1 f))
+abbrev pub after_store : ℕ → Frame → Frame
+after_store n f = next (with_local n (top f) (after_drop 1 f))
 
 -- kill: local n is undefined
-abbrev pub killed : ℕ → Frame → Frame
-killed n f = next (with_local n Undefined f)
+abbrev pub after_kill : ℕ → Frame → Frame
+after_kill n f = next (with_local n Undefined f)
 
 -- the top n operands are taken, and the frame goes on
 abbrev pub dropped_on : ℕ → Frame → Frame
-dropped_on n f = next (dropped n f)
+dropped_on n f = next (after_drop n f)
 
 -- a value in place of the top ones, so many
-abbrev pub finished : ℕ → Value → Frame → Frame
-finished n v f = next_with (v ∷ []) (dropped n f)
+abbrev pub after_finish : ℕ → Value → Frame → Frame
+after_finish n v f = next_with (v ∷ []) (after_drop n f)
 
 -- to the target, or on
-abbrev pub branched : Bool → (target : ℕ) → Frame → Frame
-branched true target f = at_place target f
-branched false target f = next f
+abbrev pub after_branch : Bool → (target : ℕ) → Frame → Frame
+after_branch true target f = at_place target f
+after_branch false target f = next f
 
 -- ---- scopes
 
@@ -78,20 +78,20 @@ object_in (Text t) = None
 object_in (Space n) = None
 
 -- an object that is taken goes onto the scopes, and no other value
-abbrev pub scoped : (with_flag : Bool) → ObjId → Frame → Frame
-scoped with_flag o f = next (with_scope (record { object = o; with_flag = with_flag }) (dropped 1 f))
+abbrev pub after_push_scope : (with_flag : Bool) → ObjId → Frame → Frame
+after_push_scope with_flag o f = next (with_scope (record { object = o; with_flag = with_flag }) (after_drop 1 f))
 
 abbrev pub scoped_if : (with_flag : Bool) → Option ObjId → Frames → Frames
 scoped_if with_flag None q = q
-scoped_if with_flag (Some o) q = with_newest (scoped with_flag o) q
+scoped_if with_flag (Some o) q = with_newest (after_push_scope with_flag o) q
 
 -- the top operand is taken and, where it is an object, put onto the newest frame's scopes; else nothing changes
 abbrev pub scopes_pushed : (with_flag : Bool) → Frames → Frames
 scopes_pushed with_flag q = scoped_if with_flag (object_in (top (newest q))) q
 
 -- popscope: the top local scope goes
-abbrev pub unscoped : Frame → Frame
-unscoped f = next (record f { scopes = take (length f.scopes - 1) f.scopes })
+abbrev pub after_pop_scope : Frame → Frame
+after_pop_scope f = next (record f { scopes = take (length f.scopes - 1) f.scopes })
 
 -- ---- what a frame that waited does with what returns; where it makes an object of that, it still waits
 
@@ -104,8 +104,8 @@ resumed_by (New n) v f = waiting Not f
 resumed_by Not v f = waiting Not f
 
 -- a frame that waited goes on with v, which a call returned
-abbrev pub resumed : Value → Frame → Frame
-resumed v f = resumed_by f.wait v f
+abbrev pub after_return : Value → Frame → Frame
+after_return v f = resumed_by f.wait v f
 
 -- with so many arguments an object is made of what returns
 abbrev pub makes_of : Wait → Option ℕ

@@ -5,7 +5,7 @@ use Rattle.abc_frames.specs.declared.records.Wait.{Wait}
 use Rattle.abc_frames.specs.declared.records.Wait.TheVariants.{Not, Push, Drop, Keep, Again, New}
 
 -- a frame lives, so many operands are there, there is room for so many, and its place can be counted on
-pub record IsReady (takes gives : ℕ) (q : Frames) : Type 0 where
+pub record HasFrameRoom (takes gives : ℕ) (q : Frames) : Type 0 where
   pub live : 0 < length q.living
   pub operands : takes ≤ length (newest q).stack
   pub room : length (newest q).stack + gives ≤ (newest_size q).stack + takes

@@ -2,7 +2,7 @@
 use Rattle.std.specs.Prelude.{ℕ, ◌<◌, List, [], ◌∷◌, Option, Some, None}
 use Rattle.abc_heap_values.specs.declared.values.Value.{Value}
 use Rattle.abc_frames.specs.declared.records.Size.{Size}
-use Rattle.abc_frames.specs.Frame.{Frame, caught}
+use Rattle.abc_frames.specs.Frame.{Frame, after_catch}
 
 -- where a method goes on from a place, if it catches there
 abbrev pub Targets : Type 0
@@ -11,14 +11,14 @@ Targets = (method place : ℕ) → Option ℕ
 abbrev pub target_for : Targets → Frame → Option ℕ
 target_for t f = t f.method f.place
 
-abbrev pub lands : Option ℕ → Value → Frame → List Frame → (otherwise : List Frame) → List Frame
-lands None v f fs otherwise = otherwise
-lands (Some target) v f fs otherwise = caught v target f ∷ fs
+abbrev pub lands_on : Option ℕ → Value → Frame → List Frame → (otherwise : List Frame) → List Frame
+lands_on None v f fs otherwise = otherwise
+lands_on (Some target) v f fs otherwise = after_catch v target f ∷ fs
 
 -- the frames that are left over, newest first, once v is thrown: the one that catches, and those under it; none if none does
 abbrev pub unwound : Targets → Value → List Frame → List Frame
 unwound t v [] = []
-unwound t v (f ∷ fs) = lands (target_for t f) v f fs (unwound t v fs)
+unwound t v (f ∷ fs) = lands_on (target_for t f) v f fs (unwound t v fs)
 
 -- the sizes of the frames that are left over
 abbrev pub sizes_from : Option ℕ → (all otherwise : List Size) → List Size

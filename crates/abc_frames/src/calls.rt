@@ -1,5 +1,5 @@
 ghost use Rattle.std.specs.Prelude.{◌≡◌, ◌<◌, ◌≤◌, ◌+◌, [], length, OnOk, OnErr};
-ghost use Rattle.abc_frames.specs.Frame.{arguments, entered, newest, room_for, started};
+ghost use Rattle.abc_frames.specs.Frame.{arguments, after_entry, newest, room_for, frames_at_start};
 
 use crate::frames::Frames;
 use crate::records::{Entry, Wait};
@@ -11,7 +11,7 @@ pub fn try_start(frames: &mut Frames, entry: Entry, locals: &[Value]) -> Result<
     requires none { frames.old.living ≡ [] }
     requires locals { length locals.now ≤ entry.size.locals }
     ensures room { result ≡ room_for frames.old entry.size }
-    ensures ok { OnOk result (frames.new ≡ started entry locals.now frames.old) }
+    ensures ok { OnOk result (frames.new ≡ frames_at_start entry locals.now frames.old) }
     ensures err { OnErr result (frames.new ≡ frames.old) }
 {
     frames.room(entry.size)?;
@@ -33,7 +33,8 @@ pub fn try_enter(
     requires operands { args + more ≤ length (newest frames.old).stack }
     requires locals { args ≤ entry.size.locals }
     ensures room { result ≡ room_for frames.old entry.size }
-    ensures ok { OnOk result (frames.new ≡ entered entry (arguments args (newest frames.old)) (args + more) wait frames.old) }
+    ensures ok { OnOk result
+        (frames.new ≡ after_entry entry (arguments args (newest frames.old)) (args + more) wait frames.old) }
     ensures err { OnErr result (frames.new ≡ frames.old) }
 {
     frames.room(entry.size)?;
@@ -54,7 +55,7 @@ pub fn try_enter_with(
     requires operands { taken ≤ length (newest frames.old).stack }
     requires locals { length locals.now ≤ entry.size.locals }
     ensures room { result ≡ room_for frames.old entry.size }
-    ensures ok { OnOk result (frames.new ≡ entered entry locals.now taken wait frames.old) }
+    ensures ok { OnOk result (frames.new ≡ after_entry entry locals.now taken wait frames.old) }
     ensures err { OnErr result (frames.new ≡ frames.old) }
 {
     frames.room(entry.size)?;

@@ -1,5 +1,5 @@
 ghost use Rattle.std.specs.Prelude.{◌≡◌, ◌<◌, ◌≤◌, ◌+◌, ◌^◌, [], ℕ, length, IfOk, OnOk, Some, slice_get};
-ghost use Rattle.abc_frames.specs.Frame.{no_frames, newest, newest_size, with_newest, pushed, with_operand, dropped, dropped_under, with_local, with_scope, at_place, waiting, caught, HasRoomFor, room_for, started, entered, arguments, left, total};
+ghost use Rattle.abc_frames.specs.Frame.{no_frames, newest, newest_size, with_newest, after_push, with_operand, after_drop, dropped_under, with_local, with_scope, at_place, waiting, after_catch, HasRoomForFrame, room_for, frames_at_start, after_entry, arguments, after_leave, total_size};
 ghost use Rattle.abc_frames.specs.Laid.{ground_head, new_head};
 ghost use Rattle.abc_frames.specs.declared.records.Wait.TheVariants.{Not};
 
@@ -116,7 +116,7 @@ impl Frames {
     #[inline]
     pub fn push(&mut self, v: Value)
         requires { length (newest self.old).stack < (newest_size self.old).stack }
-        ensures { self.new ≡ with_newest (pushed v) self.old }
+        ensures { self.new ≡ with_newest (after_push v) self.old }
     {
         self.values.push(v);
     }
@@ -125,7 +125,7 @@ impl Frames {
     #[inline]
     pub fn pop(&mut self) -> Value
         requires { 0 < length (newest self.old).stack }
-        ensures popped { self.old ≡ with_newest (pushed result) self.new }
+        ensures popped { self.old ≡ with_newest (after_push result) self.new }
         ensures depth { length self.new.living ≡ length self.old.living }
     {
         self.values.pop()
@@ -165,7 +165,7 @@ impl Frames {
     pub fn drop_operands(&mut self, count: u32)
         requires operands { count ≤ length (newest self.old).stack }
         requires live { 0 < length self.old.living }
-        ensures { self.new ≡ with_newest (dropped count) self.old }
+        ensures { self.new ≡ with_newest (after_drop count) self.old }
     {
         let left = self.values.len() - count;
         self.values.cut(left);
@@ -230,7 +230,7 @@ impl Frames {
     /// Goes on at a handler with a value: it alone is on the stack then, and no local scope is left.
     pub fn catch_at(&mut self, v: Value, target: u32)
         requires { 0 < (newest_size self.old).stack }
-        ensures { self.new ≡ with_newest (caught v target) self.old }
+        ensures { self.new ≡ with_newest (after_catch v target) self.old }
     {
         self.values.cut(self.newest.marks.stack_at);
         self.values.push(v);
@@ -242,7 +242,7 @@ impl Frames {
     /// Whether there is room for one more frame, and for the values that it may keep; the frames are tried first.
     pub fn room(&self, size: Size) -> Result<(), Full>
         ensures exact { result ≡ room_for self.now size }
-        ensures room { OnOk result (HasRoomFor self.now size) }
+        ensures room { OnOk result (HasRoomForFrame self.now size) }
     {
         if self.below.len() >= self.below.limit() {
             return Err(Full(Limit::Frames));
@@ -258,8 +258,8 @@ impl Frames {
     pub fn start(&mut self, entry: Entry, locals: &[Value])
         requires none { self.old.living ≡ [] }
         requires locals { length locals.now ≤ entry.size.locals }
-        requires room { HasRoomFor self.old entry.size }
-        ensures { self.new ≡ started entry locals.now self.old }
+        requires room { HasRoomForFrame self.old entry.size }
+        ensures { self.new ≡ frames_at_start entry locals.now self.old }
     {
         let at = self.values.len();
         let scopes_at = self.scopes.len();
@@ -279,8 +279,9 @@ impl Frames {
         requires live { 0 < length self.old.living }
         requires operands { args + more ≤ length (newest self.old).stack }
         requires locals { args ≤ entry.size.locals }
-        requires room { HasRoomFor self.old entry.size }
-        ensures { self.new ≡ entered entry (arguments args (newest self.old)) (args + more) wait self.old }
+        requires room { HasRoomForFrame self.old entry.size }
+        ensures { self.new
+            ≡ after_entry entry (arguments args (newest self.old)) (args + more) wait self.old }
     {
         let at = self.values.len() - args;
         let scopes_at = self.scopes.len();
@@ -295,8 +296,8 @@ impl Frames {
         requires live { 0 < length self.old.living }
         requires operands { taken ≤ length (newest self.old).stack }
         requires locals { length locals.now ≤ entry.size.locals }
-        requires room { HasRoomFor self.old entry.size }
-        ensures { self.new ≡ entered entry locals.now taken wait self.old }
+        requires room { HasRoomForFrame self.old entry.size }
+        ensures { self.new ≡ after_entry entry locals.now taken wait self.old }
     {
         let at = self.values.len() - taken;
         let scopes_at = self.scopes.len();
@@ -312,7 +313,7 @@ impl Frames {
     /// Leaves the newest frame, and all that it has.
     pub fn leave(&mut self)
         requires { 0 < length self.old.living }
-        ensures { self.new ≡ left self.old }
+        ensures { self.new ≡ after_leave self.old }
     {
         let last = self.below.len() - 1;
         let below = &self.below.as_slice()[last as usize];
@@ -365,7 +366,7 @@ fn paused(head: Head, wait: Wait, values: u32, scopes: u32) -> Below
 /// The head of a method that is entered over a frame with these marks.
 fn head_over(below: Marks, entry: Entry, locals_at: u32, scopes_at: u32) -> Head
     requires locals { locals_at + entry.size.locals < 2 ^ 32 }
-    requires used { below.used + total entry.size < 2 ^ 32 }
+    requires used { below.used + total_size entry.size < 2 ^ 32 }
     ensures { result ≡ new_head below entry locals_at scopes_at }
 {
     let size = entry.size;

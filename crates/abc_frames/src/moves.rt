@@ -1,8 +1,8 @@
 ghost use Rattle.std.specs.Prelude.{◌≡◌, ◌<◌, ◌≤◌, [], ◌∷◌, length, Some, slice_get};
 ghost use Rattle.abc_heap_values.specs.declared.values.Value.{Value};
 ghost use Rattle.abc_frames.specs.Frame.{newest, with_newest, at_place};
-ghost use Rattle.abc_frames.specs.Moves.{branched, duplicated, finished, killed, popped, stored, swapped, dropped_on, next, next_with};
-ghost use Rattle.abc_frames.specs.Ready.{IsReady};
+ghost use Rattle.abc_frames.specs.Moves.{after_branch, after_dup, after_finish, after_kill, after_pop, after_store, after_swap, dropped_on, next, next_with};
+ghost use Rattle.abc_frames.specs.Ready.{HasFrameRoom};
 
 use crate::frames::Frames;
 use abc_heap_values::Value;
@@ -10,7 +10,7 @@ use abc_heap_values::Value;
 /// Goes on at the next instruction.
 #[inline]
 pub fn go_on(frames: &mut Frames)
-    requires { IsReady 0 0 frames.old }
+    requires { HasFrameRoom 0 0 frames.old }
     ensures { frames.new ≡ with_newest next frames.old }
 {
     let place = frames.place();
@@ -20,7 +20,7 @@ pub fn go_on(frames: &mut Frames)
 /// Goes on at an instruction.
 #[inline]
 pub fn jump(frames: &mut Frames, target: u32)
-    requires { IsReady 0 0 frames.old }
+    requires { HasFrameRoom 0 0 frames.old }
     ensures { frames.new ≡ with_newest (at_place target) frames.old }
 {
     frames.go(target);
@@ -29,8 +29,8 @@ pub fn jump(frames: &mut Frames, target: u32)
 /// Goes on at an instruction, or at the next.
 #[inline]
 pub fn branch(frames: &mut Frames, taken: bool, target: u32)
-    requires { IsReady 0 0 frames.old }
-    ensures { frames.new ≡ with_newest (branched taken target) frames.old }
+    requires { HasFrameRoom 0 0 frames.old }
+    ensures { frames.new ≡ with_newest (after_branch taken target) frames.old }
 {
     if taken {
         frames.go(target);
@@ -42,7 +42,7 @@ pub fn branch(frames: &mut Frames, taken: bool, target: u32)
 /// Pushes a value.
 #[inline]
 pub fn push(frames: &mut Frames, v: Value)
-    requires { IsReady 0 1 frames.old }
+    requires { HasFrameRoom 0 1 frames.old }
     ensures { frames.new ≡ with_newest (next_with (v ∷ [])) frames.old }
 {
     let place = frames.place();
@@ -56,8 +56,8 @@ pub fn push(frames: &mut Frames, v: Value)
 /// Drops the top operand.
 #[inline]
 pub fn pop(frames: &mut Frames)
-    requires { IsReady 1 0 frames.old }
-    ensures { frames.new ≡ with_newest popped frames.old }
+    requires { HasFrameRoom 1 0 frames.old }
+    ensures { frames.new ≡ with_newest after_pop frames.old }
 {
     let place = frames.place();
     frames.drop_operands(1);
@@ -67,7 +67,7 @@ pub fn pop(frames: &mut Frames)
 /// Drops the top operands, so many.
 #[inline]
 pub fn drop_and_go(frames: &mut Frames, count: u32)
-    requires { IsReady count 0 frames.old }
+    requires { HasFrameRoom count 0 frames.old }
     ensures { frames.new ≡ with_newest (dropped_on count) frames.old }
 {
     let place = frames.place();
@@ -78,8 +78,8 @@ pub fn drop_and_go(frames: &mut Frames, count: u32)
 /// Pushes the top operand once more.
 #[inline]
 pub fn dup(frames: &mut Frames)
-    requires { IsReady 1 2 frames.old }
-    ensures { frames.new ≡ with_newest duplicated frames.old }
+    requires { HasFrameRoom 1 2 frames.old }
+    ensures { frames.new ≡ with_newest after_dup frames.old }
 {
     let place = frames.place();
     let v = frames.pop();
@@ -91,8 +91,8 @@ pub fn dup(frames: &mut Frames)
 /// Exchanges the two top operands.
 #[inline]
 pub fn swap(frames: &mut Frames)
-    requires { IsReady 2 2 frames.old }
-    ensures { frames.new ≡ with_newest swapped frames.old }
+    requires { HasFrameRoom 2 2 frames.old }
+    ensures { frames.new ≡ with_newest after_swap frames.old }
 {
     let place = frames.place();
     let y = frames.pop();
@@ -105,9 +105,10 @@ pub fn swap(frames: &mut Frames)
 /// Pushes a local.
 #[inline]
 pub fn get_local(frames: &mut Frames, n: u32)
-    requires ready { IsReady 0 1 frames.old }
+    requires ready { HasFrameRoom 0 1 frames.old }
     requires local { n < length (newest frames.old).locals }
-    ensures { (v : Value) → slice_get (newest frames.old).locals n ≡ Some v → frames.new ≡ with_newest (next_with (v ∷ [])) frames.old }
+    ensures { (v : Value) → slice_get (newest frames.old).locals n ≡ Some v
+        → frames.new ≡ with_newest (next_with (v ∷ [])) frames.old }
 {
     match frames.local(n) {
         Value::Num(x) => push(frames, Value::Num(x)),
@@ -121,9 +122,9 @@ pub fn get_local(frames: &mut Frames, n: u32)
 /// Takes the top operand into a local.
 #[inline]
 pub fn set_local(frames: &mut Frames, n: u32)
-    requires ready { IsReady 1 0 frames.old }
+    requires ready { HasFrameRoom 1 0 frames.old }
     requires local { n < length (newest frames.old).locals }
-    ensures { frames.new ≡ with_newest (stored n) frames.old }
+    ensures { frames.new ≡ with_newest (after_store n) frames.old }
 {
     let place = frames.place();
     match frames.operand(0) {
@@ -142,9 +143,9 @@ pub fn set_local(frames: &mut Frames, n: u32)
 /// Makes a local undefined.
 #[inline]
 pub fn kill(frames: &mut Frames, n: u32)
-    requires ready { IsReady 0 0 frames.old }
+    requires ready { HasFrameRoom 0 0 frames.old }
     requires local { n < length (newest frames.old).locals }
-    ensures { frames.new ≡ with_newest (killed n) frames.old }
+    ensures { frames.new ≡ with_newest (after_kill n) frames.old }
 {
     let place = frames.place();
     frames.set_local(n, Value::Undefined);
@@ -154,8 +155,8 @@ pub fn kill(frames: &mut Frames, n: u32)
 /// Puts a value in place of the top operands, so many.
 #[inline]
 pub fn finish(frames: &mut Frames, taken: u32, v: Value)
-    requires { IsReady taken 1 frames.old }
-    ensures { frames.new ≡ with_newest (finished taken v) frames.old }
+    requires { HasFrameRoom taken 1 frames.old }
+    ensures { frames.new ≡ with_newest (after_finish taken v) frames.old }
 {
     let place = frames.place();
     frames.drop_operands(taken);

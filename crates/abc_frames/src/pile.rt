@@ -20,7 +20,8 @@ impl<T> Model for Pile<T> {
 
     ghost view = { λ r. record { items = r.items.items; limit = r.limit } };
 
-    ghost invariant = { λ r. (length r.items.items ≤ r.limit) × (r.limit ≤ vec_capacity r.items) × (r.limit < 2 ^ 32) };
+    ghost invariant = { λ r. (length r.items.items ≤ r.limit) × (r.limit ≤ vec_capacity r.items)
+        × (r.limit < 2 ^ 32) };
 }
 
 impl<T: Drop> Pile<T> {
@@ -122,7 +123,11 @@ impl<T: Copy + Drop> Pile<T> {
     /// Takes `count` items out, from position `from` on.
     pub fn take_out(&mut self, from: u32, count: u32)
         requires { from + count ≤ length self.old.items }
-        ensures { self.new ≡ record { items = take from self.old.items ++ drop (from + count) self.old.items; limit = self.old.limit } }
+        ensures { self.new
+            ≡ record {
+              items = take from self.old.items ++ drop (from + count) self.old.items;
+              limit = self.old.limit;
+            } }
     {
         let left = self.items.len() - count as usize;
         self.items.as_mut_slice()[from as usize..].rotate_left(count as usize);

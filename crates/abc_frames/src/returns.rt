@@ -1,6 +1,6 @@
 ghost use Rattle.std.specs.Prelude.{◌≡◌, ◌<◌, ◌≤◌, ◌+◌, ◌^◌, length};
 ghost use Rattle.abc_frames.specs.Frame.{newest, newest_size, with_newest};
-ghost use Rattle.abc_frames.specs.Moves.{makes_of, resumed};
+ghost use Rattle.abc_frames.specs.Moves.{makes_of, after_return};
 ghost use Rattle.abc_frames.specs.Ready.{put_by};
 
 use crate::frames::Frames;
@@ -11,10 +11,11 @@ use abc_heap_values::Value;
 /// arguments, which are on its stack.
 pub fn resume(frames: &mut Frames, v: Value) -> Option<u32>
     requires live { 0 < length frames.old.living }
-    requires room { length (newest frames.old).stack + put_by (newest frames.old).wait ≤ (newest_size frames.old).stack }
+    requires room { length (newest frames.old).stack + put_by (newest frames.old).wait
+        ≤ (newest_size frames.old).stack }
     requires place { (newest frames.old).place + 1 < 2 ^ 32 }
     ensures makes { result ≡ makes_of (newest frames.old).wait }
-    ensures frames { frames.new ≡ with_newest (resumed v) frames.old }
+    ensures frames { frames.new ≡ with_newest (after_return v) frames.old }
 {
     let place = frames.place();
     match frames.take_wait() {

@@ -2,8 +2,8 @@ ghost use Rattle.std.specs.Prelude.{◌≡◌, ◌<◌, ◌≤◌, ◌↔◌, []
 ghost use Rattle.abc_heap_values.specs.declared.values.Value.TheVariants.{Obj};
 ghost use Rattle.abc_heap_store.specs.declared.records.ScopeEntry.{ScopeEntry};
 ghost use Rattle.abc_frames.specs.Frame.{newest, newest_size, with_newest};
-ghost use Rattle.abc_frames.specs.Moves.{next_with, object_in, scopes_pushed, top, unscoped};
-ghost use Rattle.abc_frames.specs.Ready.{IsReady};
+ghost use Rattle.abc_frames.specs.Moves.{next_with, object_in, scopes_pushed, top, after_pop_scope};
+ghost use Rattle.abc_frames.specs.Ready.{HasFrameRoom};
 
 use crate::frames::Frames;
 use crate::moves::push;
@@ -27,7 +27,7 @@ fn object_of(v: Value) -> Option<ObjId>
 
 /// Takes the top operand onto the scopes, where it is an object, and says whether it is. Else nothing changes.
 pub fn push_scope(frames: &mut Frames, with_flag: bool) -> bool
-    requires ready { IsReady 1 0 frames.old }
+    requires ready { HasFrameRoom 1 0 frames.old }
     requires room { length (newest frames.old).scopes < (newest_size frames.old).scopes }
     ensures object { result ≡ is_some (object_in (top (newest frames.old))) }
     ensures frames { frames.new ≡ scopes_pushed with_flag frames.old }
@@ -46,9 +46,9 @@ pub fn push_scope(frames: &mut Frames, with_flag: bool) -> bool
 
 /// Drops the top scope.
 pub fn pop_scope(frames: &mut Frames)
-    requires ready { IsReady 0 0 frames.old }
+    requires ready { HasFrameRoom 0 0 frames.old }
     requires scope { 0 < length (newest frames.old).scopes }
-    ensures { frames.new ≡ with_newest unscoped frames.old }
+    ensures { frames.new ≡ with_newest after_pop_scope frames.old }
 {
     let place = frames.place();
     let _entry = frames.pop_scope();
@@ -57,9 +57,10 @@ pub fn pop_scope(frames: &mut Frames)
 
 /// Pushes the object of a local scope, which is counted from the bottom.
 pub fn get_scope_object(frames: &mut Frames, n: u8)
-    requires ready { IsReady 0 1 frames.old }
+    requires ready { HasFrameRoom 0 1 frames.old }
     requires scope { n < length (newest frames.old).scopes }
-    ensures { (e : ScopeEntry) → slice_get (newest frames.old).scopes n ≡ Some e → frames.new ≡ with_newest (next_with (Obj e.object ∷ [])) frames.old }
+    ensures { (e : ScopeEntry) → slice_get (newest frames.old).scopes n ≡ Some e
+        → frames.new ≡ with_newest (next_with (Obj e.object ∷ [])) frames.old }
 {
     let entry = frames.scopes()[n as usize];
     push(frames, Value::Obj(entry.object));

@@ -20,8 +20,10 @@ pub trait Handlers {
 pub fn unwind<H: Handlers>(frames: &mut Frames, handlers: &H, v: Value) -> bool
     requires { CanCatch (H.targets handlers.now) frames.old.living frames.old.sizes }
     ensures living { frames.new.living ≡ unwound (H.targets handlers.now) v frames.old.living }
-    ensures sizes { frames.new.sizes ≡ sizes_left (H.targets handlers.now) frames.old.living frames.old.sizes }
-    ensures limits { (frames.new.frame_limit ≡ frames.old.frame_limit) × (frames.new.value_limit ≡ frames.old.value_limit) }
+    ensures sizes { frames.new.sizes
+        ≡ sizes_left (H.targets handlers.now) frames.old.living frames.old.sizes }
+    ensures limits { (frames.new.frame_limit ≡ frames.old.frame_limit)
+        × (frames.new.value_limit ≡ frames.old.value_limit) }
     ensures caught { result ≡ nat_lt 0 (length frames.new.living) }
 {
     while frames.depth() > 0 {

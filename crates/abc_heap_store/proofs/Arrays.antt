@@ -5,7 +5,7 @@ use Rattle.abc_heap_values.specs.declared.values.Value.{Value}
 use Rattle.abc_heap_store.specs.declared.records.What.TheVariants.{Array}
 use Rattle.abc_heap_store.specs.What.{is_array}
 use Rattle.abc_heap_store.specs.Heap.{Heap, Object, object_at, all_cells, HasRoomFor}
-use Rattle.abc_heap_store.specs.Changes.{change, with_object, with_more_elements, with_array, bare}
+use Rattle.abc_heap_store.specs.Changes.{change, with_object, with_more_elements, with_array, bare_object}
 use Rattle.abc_heap_store.proofs.Makes.{change_last}
 use Rattle.abc_heap_store.proofs.Steps.{all_more}
 
@@ -50,7 +50,7 @@ element_added_on h now new vs ws v o e f q =
 -- an array, empty and then filled
 pub array_begun : (h new : Heap) (layout : ℕ) (delegate : Option ObjId) (o n : ℕ) → HasRoomFor h 1 n → o ≡ length h.objects → new ≡ with_array [] layout delegate h → (o < length new.objects) × HasRoomFor new 0 n
 array_begun h new layout delegate o n r q e =
-    let ob = with_more_elements [] (bare layout delegate Array) in
+    let ob = with_more_elements [] (bare_object layout delegate Array) in
     let objects : length new.objects ≡ length h.objects + 1 = ap (λ (x : Heap). length x.objects) e ∙ length-append h.objects (ob ∷ []) in
     let cells : all_cells new.objects ≡ all_cells h.objects + 0 = ap (λ (x : Heap). all_cells x.objects) e ∙ all_more h.objects ob in
     let scopes : length new.scopes ≡ length h.scopes = ap (λ (x : Heap). length x.scopes) e in
@@ -60,7 +60,7 @@ array_begun h new layout delegate o n r q e =
 
 pub array_filled : (h h1 h2 : Heap) (es : List Value) (layout : ℕ) (delegate : Option ObjId) (o : ℕ) → o ≡ length h.objects → h1 ≡ with_array [] layout delegate h → h2 ≡ with_object (with_more_elements es) o h1 → h2 ≡ with_array es layout delegate h
 array_filled h h1 h2 es layout delegate o q e f =
-    f ∙ (ap (with_object (with_more_elements es) o) e ∙ ap (λ obs. record h { objects = obs }) (change_last (with_more_elements es) h.objects (with_more_elements [] (bare layout delegate Array)) o q))
+    f ∙ (ap (with_object (with_more_elements es) o) e ∙ ap (λ obs. record h { objects = obs }) (change_last (with_more_elements es) h.objects (with_more_elements [] (bare_object layout delegate Array)) o q))
 
 -- an array stays one while elements are added
 what_stays : (vs : List Value) (o : ℕ) (obs : List Object) → (object_at (change (with_more_elements vs) o obs) o).what ≡ (object_at obs o).what
@@ -77,6 +77,6 @@ last_object (x ∷ obs) ob = last_object obs ob
 
 pub array_is_made : (h new : Heap) (layout : ℕ) (delegate : Option ObjId) (o : ℕ) → o ≡ length h.objects → new ≡ with_array [] layout delegate h → is_array (object_at new.objects o).what ≡ true
 array_is_made h new layout delegate o q e =
-    let ob = with_more_elements [] (bare layout delegate Array) in
+    let ob = with_more_elements [] (bare_object layout delegate Array) in
     ap (λ (x : Heap). is_array (object_at x.objects o).what) e
     ∙ (ap (λ n. is_array (object_at (h.objects ++ ob ∷ []) n).what) q ∙ ap (λ (x : Object). is_array x.what) (last_object h.objects ob))

@@ -4,9 +4,9 @@ use Rattle.std.specs.Prelude.{slice_get, get_or}
 use Rattle.abc_heap_values.specs.Filling.{Filling}
 use Rattle.abc_heap_values.specs.declared.values.Span.{Span}
 use Rattle.abc_heap_values.proofs.Parts.{slice_get_left}
-use Rattle.abc_heap_store.specs.Texts.{part_of, text_in, IsTextIn}
+use Rattle.abc_heap_store.specs.Texts.{part_of_text, text_in, IsTextIn}
 
-part_grown : (fixed made more : List ℕ) (pool : List (List ℕ)) (p i : ℕ) → i < length (part_of fixed made pool p) → slice_get (part_of fixed (made ++ more) pool p) i ≡ slice_get (part_of fixed made pool p) i
+part_grown : (fixed made more : List ℕ) (pool : List (List ℕ)) (p i : ℕ) → i < length (part_of_text fixed made pool p) → slice_get (part_of_text fixed (made ++ more) pool p) i ≡ slice_get (part_of_text fixed made pool p) i
 part_grown fixed made more pool zero i b = refl
 part_grown fixed made more pool (suc zero) i b = slice_get_left made more i b
 part_grown fixed made more pool (suc (suc p)) i b = refl
@@ -36,11 +36,11 @@ take_next_or xs k d b = let n : suc k ≡ k + 1 = omega arith in take_next xs k 
     there (x ∷ xs) (suc k) d b = there xs k d (omega arith)
     there [] k d b = absurd (omega arith)
 
-pub byte_copied : (fixed : List ℕ) (old now new : Filling ℕ) (pool : List (List ℕ)) (s : Span) (k b : ℕ) → IsTextIn fixed old.items pool s → k < s.len → now ≡ record { items = old.items ++ take k (text_in fixed old.items pool s); limit = old.limit } → slice_get (part_of fixed now.items pool s.part) (s.start + k) ≡ Some b → new ≡ record { items = now.items ++ b ∷ []; limit = now.limit } → new ≡ record { items = old.items ++ take (k + 1) (text_in fixed old.items pool s); limit = old.limit }
+pub byte_copied : (fixed : List ℕ) (old now new : Filling ℕ) (pool : List (List ℕ)) (s : Span) (k b : ℕ) → IsTextIn fixed old.items pool s → k < s.len → now ≡ record { items = old.items ++ take k (text_in fixed old.items pool s); limit = old.limit } → slice_get (part_of_text fixed now.items pool s.part) (s.start + k) ≡ Some b → new ≡ record { items = now.items ++ b ∷ []; limit = now.limit } → new ≡ record { items = old.items ++ take (k + 1) (text_in fixed old.items pool s); limit = old.limit }
 byte_copied fixed old now new pool s k b t r e f g =
     let text = text_in fixed old.items pool s in
-    let p : slice_get (part_of fixed (old.items ++ take k text) pool s.part) (s.start + k) ≡ Some b = subst (λ (x : Filling ℕ). slice_get (part_of fixed x.items pool s.part) (s.start + k) ≡ Some b) e f in
-    let q : slice_get text k ≡ Some b = slice_get_part s.len s.start k (part_of fixed old.items pool s.part) r ∙ (sym (part_grown fixed old.items (take k text) pool s.part (s.start + k) (omega arith)) ∙ p) in
+    let p : slice_get (part_of_text fixed (old.items ++ take k text) pool s.part) (s.start + k) ≡ Some b = subst (λ (x : Filling ℕ). slice_get (part_of_text fixed x.items pool s.part) (s.start + k) ≡ Some b) e f in
+    let q : slice_get text k ≡ Some b = slice_get_part s.len s.start k (part_of_text fixed old.items pool s.part) r ∙ (sym (part_grown fixed old.items (take k text) pool s.part (s.start + k) (omega arith)) ∙ p) in
     let n : suc k ≡ k + 1 = omega arith in
     let P : Filling ℕ → Type 0 = λ x. ◌≡◌ {A = Filling ℕ} (record { items = x.items ++ b ∷ []; limit = x.limit }) (record { items = old.items ++ take (k + 1) text; limit = old.limit }) in
     g ∙ subst P (sym e) (ap (λ ys. record { items = ys; limit = old.limit }) (append_assoc old.items (take k text) (b ∷ []) ∙ ap (λ ys. old.items ++ ys) (take_next text k b q ∙ ap (λ m. take m text) n)))

@@ -10,8 +10,8 @@ use Rattle.abc_heap_values.specs.declared.values.Span.{Span}
 use Rattle.abc_heap_values.specs.declared.cell.Lane.{Lane}
 use Rattle.abc_heap_values.specs.declared.cell.Lane.TheVariants.{Slots, Properties, Elements}
 use Rattle.abc_heap_values.specs.declared.chain.Chain.{Chain}
-use Rattle.abc_heap_values.specs.Lanes.{lane_of, same_lane, is_of, owned, value_in, property_in}
-use Rattle.abc_heap_values.specs.Links.{Link, link_of, links, is_in, count, IsAt, IsChain, AreLinked, IsAdded}
+use Rattle.abc_heap_values.specs.Lanes.{lane_of, same_lane, belongs_to_lane, cells_of_lane, value_of_held, property_in}
+use Rattle.abc_heap_values.specs.Links.{Link, link_of, links, is_in_lane, count, IsCellAt, IsChain, AreLinked, IsCellAdded}
 use Rattle.abc_heap_values.proofs.Parts.{slice_get_more}
 use Rattle.abc_heap_values.proofs.Grows.{count_out, chain_other, at_more, is_in_own, links_more}
 use Rattle.abc_heap_values.proofs.Owned.{owned_more, owned_past, is_of_other, is_of_lane}
@@ -21,7 +21,7 @@ use Rattle.abc_heap_store.specs.declared.records.What.TheVariants.{Array}
 use Rattle.abc_heap_store.specs.What.{what_in, elements_in}
 use Rattle.abc_heap_store.specs.Heap.{Object}
 use Rattle.abc_heap_store.specs.Changes.{change, with_new_property, with_new_element}
-use Rattle.abc_heap_store.specs.View.{object, objects, IsHead, AreHeads}
+use Rattle.abc_heap_store.specs.View.{object_viewed, objects, IsHead, AreObjectHeads}
 use Rattle.abc_heap_store.proofs.Flat.{one_changed, zero_plus}
 use Rattle.abc_heap_store.proofs.Writes.{built}
 
@@ -38,17 +38,17 @@ set_length (a ∷ xs) zero x = refl
 set_length (a ∷ xs) (suc o) x = ap suc (set_length xs o x)
 
 -- the slots of an object that the new cell is no slot of
-slots_stay : (xs : List Link) (x : Link) (i : ℕ) (h : Head) → ((k : ℕ) → k < count i Slots xs → IsAt xs (h.slots + k) i Slots k) → is_in i Slots x ≡ false → (k : ℕ) → k < count i Slots (xs ++ x ∷ []) → IsAt (xs ++ x ∷ []) (h.slots + k) i Slots k
+slots_stay : (xs : List Link) (x : Link) (i : ℕ) (h : Head) → ((k : ℕ) → k < count i Slots xs → IsCellAt xs (h.slots + k) i Slots k) → is_in_lane i Slots x ≡ false → (k : ℕ) → k < count i Slots (xs ++ x ∷ []) → IsCellAt (xs ++ x ∷ []) (h.slots + k) i Slots k
 slots_stay xs x i h f n k b = at_more xs (x ∷ []) (h.slots + k) i Slots k (f k (omega (arith, count_out i Slots xs x n)))
 
-head_other : (xs : List Link) (x : Link) (i : ℕ) (h : Head) → IsHead xs i h → ((l : Lane) → is_in i l x ≡ false) → IsHead (xs ++ x ∷ []) i h
+head_other : (xs : List Link) (x : Link) (i : ℕ) (h : Head) → IsHead xs i h → ((l : Lane) → is_in_lane i l x ≡ false) → IsHead (xs ++ x ∷ []) i h
 head_other xs x i h a f = record {
   slots = slots_stay xs x i h a.slots (f Slots);
   properties = chain_other xs x i Properties h.properties (f Properties) a.properties;
   elements = chain_other xs x i Elements (elements_in h.what) (f Elements) a.elements;
 }
 
-pub grown_heads : (xs : List Link) (x : Link) (hs : List Head) (o : ℕ) (h : Head) → AreHeads xs hs → AreLinked (xs ++ x ∷ []) → x.owner ≡ o → o < length hs → IsHead (xs ++ x ∷ []) o h → AreHeads (xs ++ x ∷ []) (set hs o h)
+pub grown_heads : (xs : List Link) (x : Link) (hs : List Head) (o : ℕ) (h : Head) → AreObjectHeads xs hs → AreLinked (xs ++ x ∷ []) → x.owner ≡ o → o < length hs → IsHead (xs ++ x ∷ []) o h → AreObjectHeads (xs ++ x ∷ []) (set hs o h)
 grown_heads xs x hs o h a l w b own = record {
   linked = l;
   heads = λ i y e. elim (set_read hs o i h y e) [
@@ -61,18 +61,18 @@ grown_heads xs x hs o h a l w b own = record {
   ];
 }
 
-pub past : (cells : List Cell) (c : Cell) (o : ℕ) (l : Lane) → is_of o l c ≡ false → owned o l (cells ++ c ∷ []) ≡ owned o l cells
-past cells c o l f = owned_past cells c o l f ∙ append-nil (owned o l cells)
+pub past : (cells : List Cell) (c : Cell) (o : ℕ) (l : Lane) → belongs_to_lane o l c ≡ false → cells_of_lane o l (cells ++ c ∷ []) ≡ cells_of_lane o l cells
+past cells c o l f = owned_past cells c o l f ∙ append-nil (cells_of_lane o l cells)
 
-pub grown_objects : (cells : List Cell) (c : Cell) (hs : List Head) (o : ℕ) (h : Head) (f : Object → Object) → c.owner ≡ o → o < length hs → ((x : Head) → slice_get hs o ≡ Some x → object (cells ++ c ∷ []) o h ≡ f (object cells o x)) → objects (cells ++ c ∷ []) 0 (set hs o h) ≡ change f o (objects cells 0 hs)
+pub grown_objects : (cells : List Cell) (c : Cell) (hs : List Head) (o : ℕ) (h : Head) (f : Object → Object) → c.owner ≡ o → o < length hs → ((x : Head) → slice_get hs o ≡ Some x → object_viewed (cells ++ c ∷ []) o h ≡ f (object_viewed cells o x)) → objects (cells ++ c ∷ []) 0 (set hs o h) ≡ change f o (objects cells 0 hs)
 grown_objects cells c hs o h f w b own =
     let z = zero_plus o in
     one_changed cells (cells ++ c ∷ []) 0 o hs h f
     (λ i x n.
     let far : i ≡ o → ⊥ = λ (q : i ≡ o). n (q ∙ sym z) in
-    built x (owned i Slots (cells ++ c ∷ [])) (owned i Slots cells) (owned i Properties (cells ++ c ∷ [])) (owned i Properties cells) (owned i Elements (cells ++ c ∷ [])) (owned i Elements cells)
+    built x (cells_of_lane i Slots (cells ++ c ∷ [])) (cells_of_lane i Slots cells) (cells_of_lane i Properties (cells ++ c ∷ [])) (cells_of_lane i Properties cells) (cells_of_lane i Elements (cells ++ c ∷ [])) (cells_of_lane i Elements cells)
     (past cells c i Slots (is_of_other c o i Slots w far)) (past cells c i Properties (is_of_other c o i Properties w far)) (past cells c i Elements (is_of_other c o i Elements w far)))
-    (λ x e. subst (λ n. object (cells ++ c ∷ []) n h ≡ f (object cells n x)) (sym z) (own x e))
+    (λ x e. subst (λ n. object_viewed (cells ++ c ∷ []) n h ≡ f (object_viewed cells n x)) (sym z) (own x e))
     b
 
 -- a property, and an element, at the end
@@ -81,11 +81,11 @@ property_added cells c hs o x d n v w q e b =
     let lane : lane_of c.held ≡ Properties = ap lane_of q in
     grown_objects cells c hs o (record x { properties = d }) (with_new_property n v) w b (λ y ey.
     let same : x ≡ y = cc in
-    built x (owned o Slots (cells ++ c ∷ [])) (owned o Slots cells) (owned o Properties (cells ++ c ∷ [])) (owned o Properties cells ++ c ∷ []) (owned o Elements (cells ++ c ∷ [])) (owned o Elements cells)
+    built x (cells_of_lane o Slots (cells ++ c ∷ [])) (cells_of_lane o Slots cells) (cells_of_lane o Properties (cells ++ c ∷ [])) (cells_of_lane o Properties cells ++ c ∷ []) (cells_of_lane o Elements (cells ++ c ∷ [])) (cells_of_lane o Elements cells)
     (past cells c o Slots (is_of_lane c o Slots (ap (λ m. same_lane m Slots) lane))) (owned_more cells c o Properties (is_in_own (link_of c) o Properties w lane)) (past cells c o Elements (is_of_lane c o Elements (ap (λ m. same_lane m Elements) lane)))
-    ∙ (ap (λ ps. record (object cells o x) { properties = ps }) (map-append (λ (c : Cell). property_in c.held) (owned o Properties cells) (c ∷ []))
-    ∙ (ap (λ p. record (object cells o x) { properties = (object cells o x).properties ++ p ∷ [] }) (ap property_in q)
-    ∙ ap (λ (y : Head). with_new_property n v (object cells o y)) same)))
+    ∙ (ap (λ ps. record (object_viewed cells o x) { properties = ps }) (map-append (λ (c : Cell). property_in c.held) (cells_of_lane o Properties cells) (c ∷ []))
+    ∙ (ap (λ p. record (object_viewed cells o x) { properties = (object_viewed cells o x).properties ++ p ∷ [] }) (ap property_in q)
+    ∙ ap (λ (y : Head). with_new_property n v (object_viewed cells o y)) same)))
 
 pub element_added : (cells : List Cell) (c : Cell) (hs : List Head) (o : ℕ) (x : Head) (d : Chain) (v : Value) → c.owner ≡ o → c.held ≡ Element v → slice_get hs o ≡ Some x → o < length hs → what_in x.what ≡ Array → objects (cells ++ c ∷ []) 0 (set hs o (record x { what = kept.Array d })) ≡ change (with_new_element v) o (objects cells 0 hs)
 element_added cells c hs o x d v w q e b array =
@@ -93,14 +93,14 @@ element_added cells c hs o x d v w q e b array =
     let h : Head = record x { what = kept.Array d } in
     grown_objects cells c hs o h (with_new_element v) w b (λ y ey.
     let same : x ≡ y = cc in
-    built h (owned o Slots (cells ++ c ∷ [])) (owned o Slots cells) (owned o Properties (cells ++ c ∷ [])) (owned o Properties cells) (owned o Elements (cells ++ c ∷ [])) (owned o Elements cells ++ c ∷ [])
+    built h (cells_of_lane o Slots (cells ++ c ∷ [])) (cells_of_lane o Slots cells) (cells_of_lane o Properties (cells ++ c ∷ [])) (cells_of_lane o Properties cells) (cells_of_lane o Elements (cells ++ c ∷ [])) (cells_of_lane o Elements cells ++ c ∷ [])
     (past cells c o Slots (is_of_lane c o Slots (ap (λ m. same_lane m Slots) lane))) (past cells c o Properties (is_of_lane c o Properties (ap (λ m. same_lane m Properties) lane))) (owned_more cells c o Elements (is_in_own (link_of c) o Elements w lane))
-    ∙ (ap (λ ps. record (object cells o h) { elements = ps }) (map-append (λ (c : Cell). value_in c.held) (owned o Elements cells) (c ∷ []))
-    ∙ (ap (λ p. record (object cells o h) { elements = (object cells o x).elements ++ p ∷ [] }) (ap value_in q)
-    ∙ (ap (λ k. record (with_new_element v (object cells o x)) { what = k }) (sym array)
-    ∙ ap (λ (y : Head). with_new_element v (object cells o y)) same))))
+    ∙ (ap (λ ps. record (object_viewed cells o h) { elements = ps }) (map-append (λ (c : Cell). value_of_held c.held) (cells_of_lane o Elements cells) (c ∷ []))
+    ∙ (ap (λ p. record (object_viewed cells o h) { elements = (object_viewed cells o x).elements ++ p ∷ [] }) (ap value_of_held q)
+    ∙ (ap (λ k. record (with_new_element v (object_viewed cells o x)) { what = k }) (sym array)
+    ∙ ap (λ (y : Head). with_new_element v (object_viewed cells o y)) same))))
 
-pub lane_off : (x : Link) (o : ℕ) (l m : Lane) → x.lane ≡ l → same_lane l m ≡ false → is_in o m x ≡ false
+pub lane_off : (x : Link) (o : ℕ) (l m : Lane) → x.lane ≡ l → same_lane l m ≡ false → is_in_lane o m x ≡ false
 lane_off x o l m e f = and_right (nat_eq x.owner o) (same_lane x.lane m) (ap (λ n. same_lane n m) e ∙ f)
 
 -- the head with its longer chain
@@ -119,22 +119,22 @@ element_head xs x o h d a e c = record {
 }
 
 -- both, from what an append promises
-pub property_grown : (cells new : List Cell) (hs : List Head) (o : ℕ) (x : Head) (d : Chain) (n : Span) (v : Value) → AreHeads (links cells) hs → slice_get hs o ≡ Some x → o < length hs → IsAdded cells new o (Property n v) → AreLinked (links new) → IsChain (links new) o Properties d → (objects new 0 (set hs o (record x { properties = d })) ≡ change (with_new_property n v) o (objects cells 0 hs)) × AreHeads (links new) (set hs o (record x { properties = d })) × (length new ≡ length cells + 1)
+pub property_grown : (cells new : List Cell) (hs : List Head) (o : ℕ) (x : Head) (d : Chain) (n : Span) (v : Value) → AreObjectHeads (links cells) hs → slice_get hs o ≡ Some x → o < length hs → IsCellAdded cells new o (Property n v) → AreLinked (links new) → IsChain (links new) o Properties d → (objects new 0 (set hs o (record x { properties = d })) ≡ change (with_new_property n v) o (objects cells 0 hs)) × AreObjectHeads (links new) (set hs o (record x { properties = d })) × (length new ≡ length cells + 1)
 property_grown cells new hs o x d n v a e b (c, q, w, h) l k =
     let more : links new ≡ links cells ++ link_of c ∷ [] = ap links q ∙ links_more cells c in
     let l' : AreLinked (links cells ++ link_of c ∷ []) = subst AreLinked more l in
     let k' : IsChain (links cells ++ link_of c ∷ []) o Properties d = subst (λ xs. IsChain xs o Properties d) more k in (
       ap (λ cs. objects cs 0 (set hs o (record x { properties = d }))) q ∙ property_added cells c hs o x d n v w h e b,
-      subst (λ xs. AreHeads xs (set hs o (record x { properties = d }))) (sym more) (grown_heads (links cells) (link_of c) hs o (record x { properties = d }) a l' w b (property_head (links cells) (link_of c) o x d (a.heads o x e) (ap lane_of h) k')),
+      subst (λ xs. AreObjectHeads xs (set hs o (record x { properties = d }))) (sym more) (grown_heads (links cells) (link_of c) hs o (record x { properties = d }) a l' w b (property_head (links cells) (link_of c) o x d (a.heads o x e) (ap lane_of h) k')),
       ap length q ∙ length-append cells (c ∷ []),
     )
 
-pub element_grown : (cells new : List Cell) (hs : List Head) (o : ℕ) (x : Head) (d : Chain) (v : Value) → AreHeads (links cells) hs → slice_get hs o ≡ Some x → o < length hs → what_in x.what ≡ Array → IsAdded cells new o (Element v) → AreLinked (links new) → IsChain (links new) o Elements d → (objects new 0 (set hs o (record x { what = kept.Array d })) ≡ change (with_new_element v) o (objects cells 0 hs)) × AreHeads (links new) (set hs o (record x { what = kept.Array d })) × (length new ≡ length cells + 1)
+pub element_grown : (cells new : List Cell) (hs : List Head) (o : ℕ) (x : Head) (d : Chain) (v : Value) → AreObjectHeads (links cells) hs → slice_get hs o ≡ Some x → o < length hs → what_in x.what ≡ Array → IsCellAdded cells new o (Element v) → AreLinked (links new) → IsChain (links new) o Elements d → (objects new 0 (set hs o (record x { what = kept.Array d })) ≡ change (with_new_element v) o (objects cells 0 hs)) × AreObjectHeads (links new) (set hs o (record x { what = kept.Array d })) × (length new ≡ length cells + 1)
 element_grown cells new hs o x d v a e b array (c, q, w, h) l k =
     let more : links new ≡ links cells ++ link_of c ∷ [] = ap links q ∙ links_more cells c in
     let l' : AreLinked (links cells ++ link_of c ∷ []) = subst AreLinked more l in
     let k' : IsChain (links cells ++ link_of c ∷ []) o Elements d = subst (λ xs. IsChain xs o Elements d) more k in (
       ap (λ cs. objects cs 0 (set hs o (record x { what = kept.Array d }))) q ∙ element_added cells c hs o x d v w h e b array,
-      subst (λ xs. AreHeads xs (set hs o (record x { what = kept.Array d }))) (sym more) (grown_heads (links cells) (link_of c) hs o (record x { what = kept.Array d }) a l' w b (element_head (links cells) (link_of c) o x d (a.heads o x e) (ap lane_of h) k')),
+      subst (λ xs. AreObjectHeads xs (set hs o (record x { what = kept.Array d }))) (sym more) (grown_heads (links cells) (link_of c) hs o (record x { what = kept.Array d }) a l' w b (element_head (links cells) (link_of c) o x d (a.heads o x e) (ap lane_of h) k')),
       ap length q ∙ length-append cells (c ∷ []),
     )

@@ -6,7 +6,7 @@ use Rattle.std.specs.Prelude.{slice_get}
 use Rattle.std.proofs.lemmas.List.{length-map, map-append, map-set}
 use Rattle.abc_heap_values.specs.Filling.{Filling}
 use Rattle.abc_heap_values.specs.Lanes.{property_in}
-use Rattle.abc_heap_values.specs.Links.{held_at, IsAdded}
+use Rattle.abc_heap_values.specs.Links.{held_at, IsCellAdded}
 use Rattle.abc_heap_values.specs.declared.cell.Cell.{Cell}
 use Rattle.abc_heap_values.specs.declared.cell.Held.{Held}
 use Rattle.abc_heap_values.specs.declared.cell.Held.TheVariants.{Slot, Deleted, Element}
@@ -17,7 +17,7 @@ use Rattle.abc_heap_values.proofs.Grows.{set_held}
 use Rattle.abc_heap_store.specs.Buckets.{bucket, bucket_of, buckets_of, AreBuckets, AreNamesIn, IsIndexed, KeepsIndex}
 use Rattle.abc_heap_store.specs.declared.buckets.Buckets.{Buckets}
 use Rattle.abc_heap_store.specs.Gaps.{AreGaps}
-use Rattle.abc_heap_store.specs.Texts.{part_of, text_in, IsTextIn}
+use Rattle.abc_heap_store.specs.Texts.{part_of_text, text_in, IsTextIn}
 use Rattle.abc_heap_store.proofs.Lasts.{none_added}
 use Rattle.abc_heap_store.proofs.Gaps.{gaps_more}
 use Rattle.abc_heap_store.proofs.Growth.{set_read}
@@ -114,7 +114,7 @@ index_none fixed made strings cs new b c x is limit room none full =
     no_name : {X Y : Type 0} {p : X} → ◌≡◌ {A = Option X} None (Some p) → Y
     no_name e = absurd cc
 
-pub added_keeps : (cs new : Filling Cell) (o : ℕ) (h : Held) → IsAdded cs.items new.items o h → new.limit ≡ cs.limit → length cs.items + 1 ≤ cs.limit → property_in h ≡ None → ((n : ℕ) → h ≡ Deleted n → ⊥) → KeepsIndex cs new
+pub added_keeps : (cs new : Filling Cell) (o : ℕ) (h : Held) → IsCellAdded cs.items new.items o h → new.limit ≡ cs.limit → length cs.items + 1 ≤ cs.limit → property_in h ≡ None → ((n : ℕ) → h ≡ Deleted n → ⊥) → KeepsIndex cs new
 added_keeps cs new o h (c, is, own, held) limit room none full = λ fixed made strings b x. index_none fixed made strings cs new b c x is limit room (ap property_in held ∙ none) (λ n q. full n (sym held ∙ q))
 
 -- a slot and an element are not emptied
@@ -128,7 +128,7 @@ pub keeps_on : (a b c : Filling Cell) → KeepsIndex a b → KeepsIndex b c → 
 keeps_on a b c f g = λ fixed made strings x i. g fixed made strings x (f fixed made strings x i)
 
 -- one more property
-pub index_one : (fixed made : List ℕ) (strings : List (List ℕ)) (cs new : Filling Cell) (b b' : Buckets) (o place d : ℕ) (h : Held) (name : Span) (v : Value) → IsIndexed fixed made strings cs b → IsAdded cs.items new.items o h → property_in h ≡ Some (name, v) → new.limit ≡ cs.limit → IsTextIn fixed made strings name → place ≡ length cs.items → d ≡ bucket (length b.lasts.items) o (text_in fixed made strings name) → ((ks : List (Option ℕ)) → place ≡ length ks → AreBuckets ks b.lasts.items b.befores.items → AreBuckets (ks ++ Some d ∷ []) b'.lasts.items b'.befores.items) → (length b'.lasts.items ≡ length b.lasts.items) × (b'.befores.limit ≡ b.befores.limit) → IsIndexed fixed made strings new b'
+pub index_one : (fixed made : List ℕ) (strings : List (List ℕ)) (cs new : Filling Cell) (b b' : Buckets) (o place d : ℕ) (h : Held) (name : Span) (v : Value) → IsIndexed fixed made strings cs b → IsCellAdded cs.items new.items o h → property_in h ≡ Some (name, v) → new.limit ≡ cs.limit → IsTextIn fixed made strings name → place ≡ length cs.items → d ≡ bucket (length b.lasts.items) o (text_in fixed made strings name) → ((ks : List (Option ℕ)) → place ≡ length ks → AreBuckets ks b.lasts.items b.befores.items → AreBuckets (ks ++ Some d ∷ []) b'.lasts.items b'.befores.items) → (length b'.lasts.items ≡ length b.lasts.items) × (b'.befores.limit ≡ b.befores.limit) → IsIndexed fixed made strings new b'
 index_one fixed made strings cs new b b' o place d h name v x (c, is, own, held) prop limit text at key comes sizes =
     let n = length b.lasts.items in
     let f = text_in fixed made strings in
@@ -151,12 +151,12 @@ index_one fixed made strings cs new b b' o place d h name v x (c, is, own, held)
     full e = absurd cc
 
 -- more texts are made
-pub text_more : (fixed made more : List ℕ) (strings : List (List ℕ)) (p start n : ℕ) → start + n ≤ length (part_of fixed made strings p) → take n (drop start (part_of fixed (made ++ more) strings p)) ≡ take n (drop start (part_of fixed made strings p))
+pub text_more : (fixed made more : List ℕ) (strings : List (List ℕ)) (p start n : ℕ) → start + n ≤ length (part_of_text fixed made strings p) → take n (drop start (part_of_text fixed (made ++ more) strings p)) ≡ take n (drop start (part_of_text fixed made strings p))
 text_more fixed made more strings zero start n b = refl
 text_more fixed made more strings (suc zero) start n b = front start n made more b
 text_more fixed made more strings (suc (suc p)) start n b = refl
 
-part_more : (fixed made more : List ℕ) (strings : List (List ℕ)) (p : ℕ) → length (part_of fixed made strings p) ≤ length (part_of fixed (made ++ more) strings p)
+part_more : (fixed made more : List ℕ) (strings : List (List ℕ)) (p : ℕ) → length (part_of_text fixed made strings p) ≤ length (part_of_text fixed (made ++ more) strings p)
 part_more fixed made more strings zero = omega arith
 part_more fixed made more strings (suc zero) = omega (arith, length-append made more)
 part_more fixed made more strings (suc (suc p)) = omega arith

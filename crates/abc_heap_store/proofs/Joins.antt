@@ -6,7 +6,7 @@ use Rattle.abc_heap_values.specs.declared.cell.Cell.{Cell}
 use Rattle.abc_heap_values.specs.declared.cell.Held.TheVariants.{Deleted}
 use Rattle.abc_heap_values.specs.declared.cell.Lane.TheVariants.{Properties}
 use Rattle.abc_heap_values.specs.Lanes.{lane_of, properties, property_in}
-use Rattle.abc_heap_values.specs.Links.{links, IsAt, held_at}
+use Rattle.abc_heap_values.specs.Links.{links, IsCellAt, held_at}
 use Rattle.abc_heap_values.proofs.Parts.{slice_get_some, set_same}
 use Rattle.abc_heap_values.proofs.Owned.{links_held}
 use Rattle.abc_heap_values.proofs.Walks.{link_at}
@@ -19,7 +19,7 @@ use Rattle.abc_heap_store.specs.Texts.{text_in}
 use Rattle.abc_heap_store.specs.Gaps.{empty_in, AreEmpty, AreGaps}
 use Rattle.abc_heap_store.specs.Heap.{properties_of}
 use Rattle.abc_heap_store.specs.Changes.{with_property}
-use Rattle.abc_heap_store.specs.View.{objects, AreHeads, IsStored}
+use Rattle.abc_heap_store.specs.View.{objects, AreObjectHeads, IsStored}
 use Rattle.abc_heap_store.specs.Spots.{IsSame}
 use Rattle.abc_heap_store.proofs.Calls.{change_none}
 use Rattle.abc_heap_store.proofs.Flat.{properties_are, property_read}
@@ -28,7 +28,7 @@ use Rattle.abc_heap_store.proofs.Indexed.{index_held, keeps_on, same_some}
 use Rattle.abc_heap_store.proofs.Stands.{nameless}
 use Rattle.abc_heap_store.proofs.Writes.{cell_in, inside, length_held, property_written}
 
-pub same_self : (hs : List Head) (cs : Filling Cell) → AreHeads (links cs.items) hs → AreGaps cs.items → IsSame hs cs cs
+pub same_self : (hs : List Head) (cs : Filling Cell) → AreObjectHeads (links cs.items) hs → AreGaps cs.items → IsSame hs cs cs
 same_self hs cs a g = record { objects = refl; heads = a; gaps = g; index = λ fixed made strings b x. x; cells = refl; limit = refl }
 
 pub same_then : (hs : List Head) (a b c : Filling Cell) → IsSame hs a b → IsSame hs b c → IsSame hs a c
@@ -42,7 +42,7 @@ same_then hs a b c f g = record {
 }
 
 -- an emptied cell tells of more positions that are empty
-pub joined : (hs : List Head) (cs new : Filling Cell) (p o k n : ℕ) → AreHeads (links cs.items) hs → AreGaps cs.items → o < length hs → IsAt (links cs.items) p o Properties k → 0 < n → AreEmpty (properties_of (objects cs.items 0 hs) o) k n → new ≡ record { items = held_at cs.items p (Deleted n); limit = cs.limit } → IsSame hs cs new
+pub joined : (hs : List Head) (cs new : Filling Cell) (p o k n : ℕ) → AreObjectHeads (links cs.items) hs → AreGaps cs.items → o < length hs → IsCellAt (links cs.items) p o Properties k → 0 < n → AreEmpty (properties_of (objects cs.items 0 hs) o) k n → new ≡ record { items = held_at cs.items p (Deleted n); limit = cs.limit } → IsSame hs cs new
 joined hs cs new p o k n a g b at some empty is =
     let cells = cs.items in
     let obs = objects cells 0 hs in
@@ -63,7 +63,7 @@ joined hs cs new p o k n a g b at some empty is =
     )) in
     let done : IsSame hs cs held = record {
       objects = property_written cells p o k (Deleted n) hs a b at i refl ∙ change_none (with_property k None) o obs (λ ob e. ap (λ ps. record ob { properties = ps }) (set_same ob.properties k None (ap (λ ps. slice_get ps k) (sym e) ∙ here)));
-      heads = subst (λ xs. AreHeads xs hs) (sym (links_held cells p c (Deleted n) w.1 lane)) a;
+      heads = subst (λ xs. AreObjectHeads xs hs) (sym (links_held cells p c (Deleted n) w.1 lane)) a;
       gaps = gaps;
       index = λ fixed made strings x s. index_held fixed made strings cs held x p c (Deleted n) s w.1 refl (nameless fixed made strings (Deleted n) refl) (ap (bucket_of (length x.lasts.items) (text_in fixed made strings) c.owner) (sym none)) gaps;
       cells = length_held cells p (Deleted n);

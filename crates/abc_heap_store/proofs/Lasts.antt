@@ -2,7 +2,7 @@
 use Rattle.std.proofs.Common.{◌≡◌, ◌≢◌, ℕ, zero, suc, ◌+◌, ◌-◌, ◌<◌, ◌≤◌, Bool, true, false, List, [], ◌∷◌, ◌++◌, Option, Some, None, length, set, get_or, refl, sym, ap, ◌∙◌, arith, ◌⊎◌, inl, inr, length-append, length-set, get_or-set_same, get_or-set_other, drop, drop-cons, drop_of_length-le, ◌*◌, ◌%◌, eqb-true, eq-eqb, ne_eqb, true≢false, nat_eq, nat_le, leb-true, leb-false, if◌then◌else◌}
 use lib.ListN.{get_or-append}
 use lib.Seq.{get_or-append_seam}
-use Rattle.abc_heap_store.specs.Buckets.{hashed, is_in, last_in, AreBuckets}
+use Rattle.abc_heap_store.specs.Buckets.{hash_on, is_in_bucket, last_in, AreBuckets}
 
 pub chosen : {X : Type 0} (b : Bool) (x y : X) → b ≡ true → (if b then x else y) ≡ x
 chosen true x y e = refl
@@ -20,16 +20,16 @@ pub decide : (p n : ℕ) → (p ≡ n) ⊎ (p ≢ n)
 decide p n = elim (either (nat_eq p n)) [ inl e ↦ inl (eqb-true p n e) | inr e ↦ inr (λ q. true≢false (sym (eq-eqb p n q) ∙ e)) ]
 
 -- a test of a place
-in_own : (b : ℕ) (k : Option ℕ) → k ≡ Some b → is_in b k ≡ true
-in_own b k e = ap (is_in b) e ∙ eq-eqb b b refl
+in_own : (b : ℕ) (k : Option ℕ) → k ≡ Some b → is_in_bucket b k ≡ true
+in_own b k e = ap (is_in_bucket b) e ∙ eq-eqb b b refl
 
-in_other : (b d : ℕ) (k : Option ℕ) → k ≡ Some d → d ≢ b → is_in b k ≡ false
-in_other b d k e n = ap (is_in b) e ∙ ne_eqb d b n
+in_other : (b d : ℕ) (k : Option ℕ) → k ≡ Some d → d ≢ b → is_in_bucket b k ≡ false
+in_other b d k e n = ap (is_in_bucket b) e ∙ ne_eqb d b n
 
-in_none : (b : ℕ) (k : Option ℕ) → k ≡ None → is_in b k ≡ false
-in_none b k e = ap (is_in b) e
+in_none : (b : ℕ) (k : Option ℕ) → k ≡ None → is_in_bucket b k ≡ false
+in_none b k e = ap (is_in_bucket b) e
 
-in_is : (b : ℕ) (k : Option ℕ) → is_in b k ≡ true → k ≡ Some b
+in_is : (b : ℕ) (k : Option ℕ) → is_in_bucket b k ≡ true → k ≡ Some b
 in_is b None e = absurd cc
 in_is b (Some d) e = ap Some (eqb-true d b e)
 
@@ -38,20 +38,20 @@ within [] p b e = absurd cc
 within (k ∷ ks) zero b e = omega arith
 within (k ∷ ks) (suc p) b e = omega (arith, within ks p b e)
 
-last_own : (ks : List (Option ℕ)) (b n : ℕ) → is_in b (get_or ks n None) ≡ true → last_in ks b (suc n) ≡ suc n
-last_own ks b n e = chosen (is_in b (get_or ks n None)) (suc n) (last_in ks b n) e
+last_own : (ks : List (Option ℕ)) (b n : ℕ) → is_in_bucket b (get_or ks n None) ≡ true → last_in ks b (suc n) ≡ suc n
+last_own ks b n e = chosen (is_in_bucket b (get_or ks n None)) (suc n) (last_in ks b n) e
 
-last_on : (ks : List (Option ℕ)) (b n : ℕ) → is_in b (get_or ks n None) ≡ false → last_in ks b (suc n) ≡ last_in ks b n
-last_on ks b n e = skipped (is_in b (get_or ks n None)) (suc n) (last_in ks b n) e
+last_on : (ks : List (Option ℕ)) (b n : ℕ) → is_in_bucket b (get_or ks n None) ≡ false → last_in ks b (suc n) ≡ last_in ks b n
+last_on ks b n e = skipped (is_in_bucket b (get_or ks n None)) (suc n) (last_in ks b n) e
 
 pub last_le : (ks : List (Option ℕ)) (b n : ℕ) → last_in ks b n ≤ n
 last_le ks b zero = omega arith
-last_le ks b (suc n) = elim (either (is_in b (get_or ks n None))) [ inl e ↦ omega (arith, last_own ks b n e) | inr e ↦ omega (arith, last_on ks b n e, last_le ks b n) ]
+last_le ks b (suc n) = elim (either (is_in_bucket b (get_or ks n None))) [ inl e ↦ omega (arith, last_own ks b n e) | inr e ↦ omega (arith, last_on ks b n e, last_le ks b n) ]
 
 -- it is in the bucket
 pub last_hit : (ks : List (Option ℕ)) (b n : ℕ) → 0 < last_in ks b n → get_or ks (last_in ks b n - 1) None ≡ Some b
 last_hit ks b zero h = absurd (omega arith)
-last_hit ks b (suc n) h = elim (either (is_in b (get_or ks n None))) [
+last_hit ks b (suc n) h = elim (either (is_in_bucket b (get_or ks n None))) [
   | inl e ↦ let q : last_in ks b (suc n) - 1 ≡ n = omega (arith, last_own ks b n e) in ap (λ k. get_or ks k None) q ∙ in_is b (get_or ks n None) e
   | inr e ↦ let q = last_on ks b n e in ap (λ k. get_or ks (k - 1) None) q ∙ last_hit ks b n (omega (arith, q))
 ]
@@ -59,7 +59,7 @@ last_hit ks b (suc n) h = elim (either (is_in b (get_or ks n None))) [
 -- and no place of the bucket is above it
 pub last_covers : (ks : List (Option ℕ)) (b n p : ℕ) → p < n → get_or ks p None ≡ Some b → p + 1 ≤ last_in ks b n
 last_covers ks b zero p h e = absurd (omega arith)
-last_covers ks b (suc n) p h e = elim (either (is_in b (get_or ks n None))) [
+last_covers ks b (suc n) p h e = elim (either (is_in_bucket b (get_or ks n None))) [
   | inl t ↦ omega (arith, last_own ks b n t)
   | inr t ↦ elim (decide p n) [
     | inl q ↦ absurd (true≢false (sym (in_own b (get_or ks n None) (ap (λ k. get_or ks k None) (sym q) ∙ e)) ∙ t))
@@ -68,22 +68,22 @@ last_covers ks b (suc n) p h e = elim (either (is_in b (get_or ks n None))) [
 ]
 
 -- where no test below it changes, neither does the last
-pub last_same : (ks ks' : List (Option ℕ)) (b n : ℕ) → ((p : ℕ) → p < n → is_in b (get_or ks' p None) ≡ is_in b (get_or ks p None)) → last_in ks' b n ≡ last_in ks b n
+pub last_same : (ks ks' : List (Option ℕ)) (b n : ℕ) → ((p : ℕ) → p < n → is_in_bucket b (get_or ks' p None) ≡ is_in_bucket b (get_or ks p None)) → last_in ks' b n ≡ last_in ks b n
 last_same ks ks' b zero f = refl
 last_same ks ks' b (suc n) f =
     ap (λ (t : Bool). if t then suc n else last_in ks' b n) (f n (omega arith))
-    ∙ ap (λ m. if is_in b (get_or ks n None) then suc n else m) (last_same ks ks' b n (λ p h. f p (omega arith)))
+    ∙ ap (λ m. if is_in_bucket b (get_or ks n None) then suc n else m) (last_same ks ks' b n (λ p h. f p (omega arith)))
 
 last_front : (ks : List (Option ℕ)) (k : Option ℕ) (b n : ℕ) → n ≤ length ks → last_in (ks ++ k ∷ []) b n ≡ last_in ks b n
-last_front ks k b n h = last_same ks (ks ++ k ∷ []) b n (λ p l. ap (is_in b) (get_or-append ks (k ∷ []) None p (omega arith)))
+last_front ks k b n h = last_same ks (ks ++ k ∷ []) b n (λ p l. ap (is_in_bucket b) (get_or-append ks (k ∷ []) None p (omega arith)))
 
 more_long : (ks : List (Option ℕ)) (k : Option ℕ) → length (ks ++ k ∷ []) ≡ suc (length ks)
 more_long ks k = omega (arith, length-append ks (k ∷ []))
 
-last_seam : (ks : List (Option ℕ)) (k : Option ℕ) (b : ℕ) → is_in b k ≡ false → last_in (ks ++ k ∷ []) b (length (ks ++ k ∷ [])) ≡ last_in ks b (length ks)
+last_seam : (ks : List (Option ℕ)) (k : Option ℕ) (b : ℕ) → is_in_bucket b k ≡ false → last_in (ks ++ k ∷ []) b (length (ks ++ k ∷ [])) ≡ last_in ks b (length ks)
 last_seam ks k b e =
     ap (last_in (ks ++ k ∷ []) b) (more_long ks k)
-    ∙ (last_on (ks ++ k ∷ []) b (length ks) (ap (is_in b) (get_or-append_seam ks k [] None) ∙ e) ∙ last_front ks k b (length ks) (omega arith))
+    ∙ (last_on (ks ++ k ∷ []) b (length ks) (ap (is_in_bucket b) (get_or-append_seam ks k [] None) ∙ e) ∙ last_front ks k b (length ks) (omega arith))
 
 -- a place that is in no bucket
 pub none_added : (ks : List (Option ℕ)) (lasts befores : List ℕ) → AreBuckets ks lasts befores → AreBuckets (ks ++ None ∷ []) lasts befores
@@ -153,11 +153,11 @@ one_added ks lasts befores d n a e r i = record {
 gone_other : (ks : List (Option ℕ)) (p d b n : ℕ) → get_or ks p None ≡ Some d → d ≢ b → last_in (set ks p None) b n ≡ last_in ks b n
 gone_other ks p d b n e f = last_same ks (set ks p None) b n (λ q h. elim (decide q p) [
   | inl t ↦ in_none b _ (ap (λ k. get_or (set ks p None) k None) t ∙ get_or-set_same ks p None None (within ks p d e)) ∙ sym (in_other b d _ (ap (λ k. get_or ks k None) t ∙ e) f)
-  | inr t ↦ ap (is_in b) (get_or-set_other ks p q None None t)
+  | inr t ↦ ap (is_in_bucket b) (get_or-set_other ks p q None None t)
 ])
 
 gone_below : (ks : List (Option ℕ)) (p b n : ℕ) → n ≤ p → last_in (set ks p None) b n ≡ last_in ks b n
-gone_below ks p b n l = last_same ks (set ks p None) b n (λ q h. ap (is_in b) (get_or-set_other ks p q None None (λ (z : q ≡ p). absurd (omega arith))))
+gone_below ks p b n l = last_same ks (set ks p None) b n (λ q h. ap (is_in_bucket b) (get_or-set_other ks p q None None (λ (z : q ≡ p). absurd (omega arith))))
 
 -- above it, the last is what was below it where it was the last, and else stays
 gone_above : (ks : List (Option ℕ)) (p d n : ℕ) → get_or ks p None ≡ Some d → p < n → (last_in ks d n ≡ p + 1 → last_in (set ks p None) d n ≡ last_in ks d p) × (last_in ks d n ≢ p + 1 → last_in (set ks p None) d n ≡ last_in ks d n)
@@ -169,14 +169,14 @@ gone_above ks p d (suc n) e l = elim (decide p n) [
       (λ h. now, λ h. absurd (h was))
   | inr q ↦
       let same : get_or (set ks p None) n None ≡ get_or ks n None = get_or-set_other ks p n None None (λ z. q (sym z)) in
-      elim (either (is_in d (get_or ks n None))) [
+      elim (either (is_in_bucket d (get_or ks n None))) [
         | inl t ↦
             let was = last_own ks d n t in
-            let now = last_own (set ks p None) d n (ap (is_in d) same ∙ t) in
+            let now = last_own (set ks p None) d n (ap (is_in_bucket d) same ∙ t) in
             (λ h. absurd (clash p n q (sym was ∙ h)), λ h. now ∙ sym was)
         | inr t ↦
             let was = last_on ks d n t in
-            let now = last_on (set ks p None) d n (ap (is_in d) same ∙ t) in
+            let now = last_on (set ks p None) d n (ap (is_in_bucket d) same ∙ t) in
             let r = gone_above ks p d n e (omega arith) in
             (λ h. now ∙ r.0 (sym was ∙ h), λ h. now ∙ (r.1 (λ z. h (was ∙ z)) ∙ sym was))
       ]
@@ -333,15 +333,15 @@ above_next ks lasts befores d p x y z a e s n ez =
 
 -- ---- the hash, byte by byte
 
-pub hash_next : (h i d : ℕ) (t : List ℕ) → i < length t → hashed ((h * 65599 + get_or t i d) % 4294967296) (drop (i + 1) t) ≡ hashed h (drop i t)
-unfolding hashed
+pub hash_next : (h i d : ℕ) (t : List ℕ) → i < length t → hash_on ((h * 65599 + get_or t i d) % 4294967296) (drop (i + 1) t) ≡ hash_on h (drop i t)
+unfolding hash_on
 hash_next h i d t b =
     let n : i + 1 ≡ suc i = omega arith in
-    ap (λ k. hashed ((h * 65599 + get_or t i d) % 4294967296) (drop k t)) n ∙ sym (ap (hashed h) (drop-cons t i d b))
+    ap (λ k. hash_on ((h * 65599 + get_or t i d) % 4294967296) (drop k t)) n ∙ sym (ap (hash_on h) (drop-cons t i d b))
 
-pub hash_done : (h i : ℕ) (t : List ℕ) → length t ≤ i → hashed h (drop i t) ≡ h
-unfolding hashed
-hash_done h i t b = ap (hashed h) (drop_of_length-le t b)
+pub hash_done : (h i : ℕ) (t : List ℕ) → length t ≤ i → hash_on h (drop i t) ≡ h
+unfolding hash_on
+hash_done h i t b = ap (hash_on h) (drop_of_length-le t b)
 
 pub in_befores : (ks : List (Option ℕ)) (lasts befores : List ℕ) (d x : ℕ) → AreBuckets ks lasts befores → get_or ks x None ≡ Some d → x < length befores
 in_befores ks lasts befores d x a e = a.room x d e

@@ -6,19 +6,19 @@ use Rattle.std.proofs.lemmas.List.{length-map}
 use Rattle.abc_heap_values.specs.declared.cell.Cell.{Cell}
 use Rattle.abc_heap_values.specs.declared.cell.Lane.{Lane}
 use Rattle.abc_heap_values.specs.declared.cell.Lane.TheVariants.{Slots, Properties, Elements}
-use Rattle.abc_heap_values.specs.Lanes.{lane_of, same_lane, is_of, owned, value_in, property_in}
+use Rattle.abc_heap_values.specs.Lanes.{lane_of, same_lane, belongs_to_lane, cells_of_lane, value_of_held, property_in}
 use Rattle.abc_heap_values.specs.Links.{Link, link_of, links}
 use Rattle.abc_heap_values.proofs.Grows.{is_in_own}
 use Rattle.abc_heap_values.proofs.Owned.{is_of_other, is_of_lane}
 use Rattle.abc_heap_store.specs.declared.heads.Head.{Head}
 use Rattle.abc_heap_store.specs.Heap.{all_cells, cells_of}
-use Rattle.abc_heap_store.specs.View.{object, objects, AreHeads}
+use Rattle.abc_heap_store.specs.View.{object_viewed, objects, AreObjectHeads}
 
 abbrev sizes : ℕ → List Cell → ℕ
-sizes o cells = length (owned o Slots cells) + length (owned o Properties cells) + length (owned o Elements cells)
+sizes o cells = length (cells_of_lane o Slots cells) + length (cells_of_lane o Properties cells) + length (cells_of_lane o Elements cells)
 
-cells_are : (cells : List Cell) (o : ℕ) (h : Head) → cells_of (object cells o h) ≡ sizes o cells
-cells_are cells o h = omega (arith, length-map (owned o Slots cells) (λ (c : Cell). value_in c.held), length-map (owned o Properties cells) (λ (c : Cell). property_in c.held), length-map (owned o Elements cells) (λ (c : Cell). value_in c.held))
+cells_are : (cells : List Cell) (o : ℕ) (h : Head) → cells_of (object_viewed cells o h) ≡ sizes o cells
+cells_are cells o h = omega (arith, length-map (cells_of_lane o Slots cells) (λ (c : Cell). value_of_held c.held), length-map (cells_of_lane o Properties cells) (λ (c : Cell). property_in c.held), length-map (cells_of_lane o Elements cells) (λ (c : Cell). value_of_held c.held))
 
 put_in : (b : Bool) (c : Cell) (cs : List Cell) → b ≡ true → length (cond b (c ∷ cs) cs) ≡ length cs + 1
 put_in true c cs e = omega arith
@@ -29,12 +29,12 @@ left_out false c cs e = refl
 left_out true c cs e = absurd cc
 
 sizes_own : (c : Cell) (cells : List Cell) (l : Lane) → lane_of c.held ≡ l → sizes c.owner (c ∷ cells) ≡ sizes c.owner cells + 1
-sizes_own c cells Slots e = omega (arith, put_in (is_of c.owner Slots c) c (owned c.owner Slots cells) (is_in_own (link_of c) c.owner Slots refl e), left_out (is_of c.owner Properties c) c (owned c.owner Properties cells) (is_of_lane c c.owner Properties (ap (λ m. same_lane m Properties) e)), left_out (is_of c.owner Elements c) c (owned c.owner Elements cells) (is_of_lane c c.owner Elements (ap (λ m. same_lane m Elements) e)))
-sizes_own c cells Properties e = omega (arith, put_in (is_of c.owner Properties c) c (owned c.owner Properties cells) (is_in_own (link_of c) c.owner Properties refl e), left_out (is_of c.owner Slots c) c (owned c.owner Slots cells) (is_of_lane c c.owner Slots (ap (λ m. same_lane m Slots) e)), left_out (is_of c.owner Elements c) c (owned c.owner Elements cells) (is_of_lane c c.owner Elements (ap (λ m. same_lane m Elements) e)))
-sizes_own c cells Elements e = omega (arith, put_in (is_of c.owner Elements c) c (owned c.owner Elements cells) (is_in_own (link_of c) c.owner Elements refl e), left_out (is_of c.owner Slots c) c (owned c.owner Slots cells) (is_of_lane c c.owner Slots (ap (λ m. same_lane m Slots) e)), left_out (is_of c.owner Properties c) c (owned c.owner Properties cells) (is_of_lane c c.owner Properties (ap (λ m. same_lane m Properties) e)))
+sizes_own c cells Slots e = omega (arith, put_in (belongs_to_lane c.owner Slots c) c (cells_of_lane c.owner Slots cells) (is_in_own (link_of c) c.owner Slots refl e), left_out (belongs_to_lane c.owner Properties c) c (cells_of_lane c.owner Properties cells) (is_of_lane c c.owner Properties (ap (λ m. same_lane m Properties) e)), left_out (belongs_to_lane c.owner Elements c) c (cells_of_lane c.owner Elements cells) (is_of_lane c c.owner Elements (ap (λ m. same_lane m Elements) e)))
+sizes_own c cells Properties e = omega (arith, put_in (belongs_to_lane c.owner Properties c) c (cells_of_lane c.owner Properties cells) (is_in_own (link_of c) c.owner Properties refl e), left_out (belongs_to_lane c.owner Slots c) c (cells_of_lane c.owner Slots cells) (is_of_lane c c.owner Slots (ap (λ m. same_lane m Slots) e)), left_out (belongs_to_lane c.owner Elements c) c (cells_of_lane c.owner Elements cells) (is_of_lane c c.owner Elements (ap (λ m. same_lane m Elements) e)))
+sizes_own c cells Elements e = omega (arith, put_in (belongs_to_lane c.owner Elements c) c (cells_of_lane c.owner Elements cells) (is_in_own (link_of c) c.owner Elements refl e), left_out (belongs_to_lane c.owner Slots c) c (cells_of_lane c.owner Slots cells) (is_of_lane c c.owner Slots (ap (λ m. same_lane m Slots) e)), left_out (belongs_to_lane c.owner Properties c) c (cells_of_lane c.owner Properties cells) (is_of_lane c c.owner Properties (ap (λ m. same_lane m Properties) e)))
 
 sizes_other : (c : Cell) (cells : List Cell) (o : ℕ) → (o ≡ c.owner → ⊥) → sizes o (c ∷ cells) ≡ sizes o cells
-sizes_other c cells o n = omega (arith, left_out (is_of o Slots c) c (owned o Slots cells) (is_of_other c c.owner o Slots refl n), left_out (is_of o Properties c) c (owned o Properties cells) (is_of_other c c.owner o Properties refl n), left_out (is_of o Elements c) c (owned o Elements cells) (is_of_other c c.owner o Elements refl n))
+sizes_other c cells o n = omega (arith, left_out (belongs_to_lane o Slots c) c (cells_of_lane o Slots cells) (is_of_other c c.owner o Slots refl n), left_out (belongs_to_lane o Properties c) c (cells_of_lane o Properties cells) (is_of_other c c.owner o Properties refl n), left_out (belongs_to_lane o Elements c) c (cells_of_lane o Elements cells) (is_of_other c c.owner o Elements refl n))
 
 none_more : (c : Cell) (cells : List Cell) (m : ℕ) (hs : List Head) → c.owner < m → all_cells (objects (c ∷ cells) m hs) ≡ all_cells (objects cells m hs)
 none_more c cells m [] b = refl
@@ -62,5 +62,5 @@ all_counted (c ∷ cells) hs f = omega (arith, one_more c cells 0 hs (omega arit
     at_next : (i : ℕ) (x : Link) → slice_get (links cells) i ≡ Some x → slice_get (link_of c ∷ links cells) (i + 1) ≡ Some x
     at_next i x e = let q : i + 1 ≡ suc i = omega arith in ap (slice_get (link_of c ∷ links cells)) q ∙ e
 
-pub ledger : (cells : List Cell) (hs : List Head) → AreHeads (links cells) hs → all_cells (objects cells 0 hs) ≡ length cells
+pub ledger : (cells : List Cell) (hs : List Head) → AreObjectHeads (links cells) hs → all_cells (objects cells 0 hs) ≡ length cells
 ledger cells hs a = all_counted cells hs a.owners

@@ -5,12 +5,12 @@ use Rattle.std.proofs.lemmas.Option.{slice_get_within}
 use Rattle.abc_heap_values.specs.declared.values.Span.{Span}
 use Rattle.abc_heap_values.specs.declared.values.Value.{Value}
 use Rattle.abc_heap_store.specs.Gaps.{AreEmpty}
-use Rattle.abc_heap_store.specs.Properties.{first_filled, next_filled, at_position, filled}
+use Rattle.abc_heap_store.specs.Properties.{first_filled, next_filled, at_position, present_property}
 
 next : (k : ℕ) → suc k ≡ k + 1
 next k = omega arith
 
-drop_some : (ps : List (Option (Span × Value))) (k : ℕ) → k < length ps → (x : Option (Span × Value)) × (drop k ps ≡ x ∷ drop (suc k) ps) × (filled (slice_get ps k) ≡ x)
+drop_some : (ps : List (Option (Span × Value))) (k : ℕ) → k < length ps → (x : Option (Span × Value)) × (drop k ps ≡ x ∷ drop (suc k) ps) × (present_property (slice_get ps k) ≡ x)
 drop_some (p ∷ ps) zero b = (p, refl, refl)
 drop_some (p ∷ ps) (suc k) b = drop_some ps k (omega arith)
 drop_some [] k b = absurd (omega arith)
@@ -49,6 +49,6 @@ pub next_run : (ps : List (Option (Span × Value))) (k n : ℕ) → AreEmpty ps 
 next_run ps k zero a = let z : k ≡ k + 0 = omega arith in ap (next_filled ps) z
 next_run ps k (suc n) a =
     let e = a k (omega arith) (omega arith) in
-    let none : is_some (at_position ps (k + 1)) ≡ false = ap (λ m. is_some (at_position ps m)) (sym (next k)) ∙ ap (λ x. is_some (filled x)) e in
+    let none : is_some (at_position ps (k + 1)) ≡ false = ap (λ m. is_some (at_position ps m)) (sym (next k)) ∙ ap (λ x. is_some (present_property x)) e in
     let m : (k + 1) + n ≡ k + suc n = omega arith in
     next_past ps k (slice_get_within ps k None e) none ∙ (next_run ps (k + 1) n (λ j b d. a j (omega arith) (omega arith)) ∙ ap (next_filled ps) m)

@@ -11,8 +11,8 @@ use Rattle.abc_heap_values.specs.declared.values.Value.{Value}
 use Rattle.abc_heap_values.specs.declared.cell.Held.{Held}
 use Rattle.abc_heap_values.specs.declared.cell.Held.TheVariants.{Slot, Property, Deleted, Element}
 use Rattle.abc_heap_values.specs.declared.cell.Lane.TheVariants.{Properties}
-use Rattle.abc_heap_values.specs.Lanes.{is_of, lane_of, same_lane, owned, property_in}
-use Rattle.abc_heap_values.specs.Links.{Link, link_of, links, IsAt}
+use Rattle.abc_heap_values.specs.Lanes.{belongs_to_lane, lane_of, same_lane, cells_of_lane, property_in}
+use Rattle.abc_heap_values.specs.Links.{Link, link_of, links, IsCellAt}
 use Rattle.abc_heap_values.proofs.Parts.{filter_at}
 use Rattle.abc_heap_values.proofs.Walks.{link_at}
 use Rattle.abc_heap_values.proofs.Owned.{ranked}
@@ -21,8 +21,8 @@ use Rattle.abc_heap_store.specs.declared.buckets.Buckets.{Buckets}
 use Rattle.abc_heap_store.specs.Buckets.{bucket, bucket_of, buckets_of, last_in, IsIndexed}
 use Rattle.abc_heap_store.specs.Heap.{properties_of}
 use Rattle.abc_heap_store.specs.Texts.{text_in}
-use Rattle.abc_heap_store.specs.Properties.{is_named, place_below, place_named}
-use Rattle.abc_heap_store.specs.View.{objects, AreHeads}
+use Rattle.abc_heap_store.specs.Properties.{is_property_named, place_below, place_named}
+use Rattle.abc_heap_store.specs.View.{objects, AreObjectHeads}
 use Rattle.abc_heap_store.specs.Spots.{IsSpot}
 use Rattle.abc_heap_store.proofs.Lasts.{chosen, skipped, decide, last_le, last_hit, last_covers}
 use Rattle.abc_heap_store.proofs.Flat.{properties_are, property_read}
@@ -30,7 +30,7 @@ use Rattle.abc_heap_store.proofs.Indexed.{key_at, buckets_long}
 
 -- a cell holds a property of this object and this text
 abbrev pub fits : (Span → List ℕ) → List ℕ → ℕ → Cell → Bool
-fits f t o c = nat_eq c.owner o && is_named f t (Some (property_in c.held))
+fits f t o c = nat_eq c.owner o && is_property_named f t (Some (property_in c.held))
 
 either : (t : Bool) → (t ≡ true) ⊎ (t ≡ false)
 either true = inl refl
@@ -49,11 +49,11 @@ both_are false y p q = absurd cc
 clash : {X : Type 0} → true ≡ false → X
 clash e = absurd cc
 
-pub found_named : (f : Span → List ℕ) (t : List ℕ) (ps : List (Option (Span × Value))) (k n : ℕ) → place_below f t ps n ≡ Some k → is_named f t (slice_get ps k) ≡ true
+pub found_named : (f : Span → List ℕ) (t : List ℕ) (ps : List (Option (Span × Value))) (k n : ℕ) → place_below f t ps n ≡ Some k → is_property_named f t (slice_get ps k) ≡ true
 found_named f t ps k zero e = absurd cc
-found_named f t ps k (suc n) e = elim (either (is_named f t (slice_get ps n))) [
-  | inl q ↦ let s : n ≡ k = some_same n k (sym (chosen (is_named f t (slice_get ps n)) (Some n) (place_below f t ps n) q) ∙ e) in ap (λ m. is_named f t (slice_get ps m)) (sym s) ∙ q
-  | inr q ↦ found_named f t ps k n (sym (skipped (is_named f t (slice_get ps n)) (Some n) (place_below f t ps n) q) ∙ e)
+found_named f t ps k (suc n) e = elim (either (is_property_named f t (slice_get ps n))) [
+  | inl q ↦ let s : n ≡ k = some_same n k (sym (chosen (is_property_named f t (slice_get ps n)) (Some n) (place_below f t ps n) q) ∙ e) in ap (λ m. is_property_named f t (slice_get ps m)) (sym s) ∙ q
+  | inr q ↦ found_named f t ps k n (sym (skipped (is_property_named f t (slice_get ps n)) (Some n) (place_below f t ps n) q) ∙ e)
 ]
   where
     some_same : (n k : ℕ) → Some n ≡ Some k → n ≡ k
@@ -100,18 +100,18 @@ rank_grows p (x ∷ xs) (suc i) (suc n) b = elim (either (p x)) [
 
 -- ---- the search in the list of properties
 
-pub below_none : (f : Span → List ℕ) (t : List ℕ) (ps : List (Option (Span × Value))) (n : ℕ) → ((j : ℕ) → is_named f t (slice_get ps j) ≡ true → ⊥) → place_below f t ps n ≡ None
+pub below_none : (f : Span → List ℕ) (t : List ℕ) (ps : List (Option (Span × Value))) (n : ℕ) → ((j : ℕ) → is_property_named f t (slice_get ps j) ≡ true → ⊥) → place_below f t ps n ≡ None
 below_none f t ps zero h = refl
-below_none f t ps (suc n) h = elim (either (is_named f t (slice_get ps n))) [
+below_none f t ps (suc n) h = elim (either (is_property_named f t (slice_get ps n))) [
   | inl e ↦ absurd (h n e)
-  | inr e ↦ skipped (is_named f t (slice_get ps n)) (Some n) (place_below f t ps n) e ∙ below_none f t ps n h
+  | inr e ↦ skipped (is_property_named f t (slice_get ps n)) (Some n) (place_below f t ps n) e ∙ below_none f t ps n h
 ]
 
-below_last : (f : Span → List ℕ) (t : List ℕ) (ps : List (Option (Span × Value))) (k n : ℕ) → k < n → is_named f t (slice_get ps k) ≡ true → ((j : ℕ) → is_named f t (slice_get ps j) ≡ true → j ≤ k) → place_below f t ps n ≡ Some k
+below_last : (f : Span → List ℕ) (t : List ℕ) (ps : List (Option (Span × Value))) (k n : ℕ) → k < n → is_property_named f t (slice_get ps k) ≡ true → ((j : ℕ) → is_property_named f t (slice_get ps j) ≡ true → j ≤ k) → place_below f t ps n ≡ Some k
 below_last f t ps k zero b e h = absurd (omega arith)
-below_last f t ps k (suc n) b e h = elim (either (is_named f t (slice_get ps n))) [
-  | inl q ↦ let s : n ≡ k = same n k (h n q) b in chosen (is_named f t (slice_get ps n)) (Some n) (place_below f t ps n) q ∙ ap Some s
-  | inr q ↦ skipped (is_named f t (slice_get ps n)) (Some n) (place_below f t ps n) q ∙ below_last f t ps k n (less n b (λ (s : k ≡ n). clash (sym e ∙ (ap (λ m. is_named f t (slice_get ps m)) s ∙ q)))) e h
+below_last f t ps k (suc n) b e h = elim (either (is_property_named f t (slice_get ps n))) [
+  | inl q ↦ let s : n ≡ k = same n k (h n q) b in chosen (is_property_named f t (slice_get ps n)) (Some n) (place_below f t ps n) q ∙ ap Some s
+  | inr q ↦ skipped (is_property_named f t (slice_get ps n)) (Some n) (place_below f t ps n) q ∙ below_last f t ps k n (less n b (λ (s : k ≡ n). clash (sym e ∙ (ap (λ m. is_property_named f t (slice_get ps m)) s ∙ q)))) e h
 ]
   where
     same : (n k : ℕ) → n ≤ k → k < suc n → n ≡ k
@@ -126,28 +126,28 @@ record IsNamedAt (cells : List Cell) (o : ℕ) (f : Span → List ℕ) (t : List
   cell : Cell
   at : slice_get cells place ≡ Some cell
   fit : fits f t o cell ≡ true
-  rank : length (owned o Properties (take place cells)) ≡ j
+  rank : length (cells_of_lane o Properties (take place cells)) ≡ j
 
-named_at : (cells : List Cell) (heads : List Head) (o : ℕ) (f : Span → List ℕ) (t : List ℕ) (j : ℕ) → o < length heads → is_named f t (slice_get (properties_of (objects cells 0 heads) o) j) ≡ true → IsNamedAt cells o f t j
+named_at : (cells : List Cell) (heads : List Head) (o : ℕ) (f : Span → List ℕ) (t : List ℕ) (j : ℕ) → o < length heads → is_property_named f t (slice_get (properties_of (objects cells 0 heads) o) j) ≡ true → IsNamedAt cells o f t j
 named_at cells heads o f t j b e =
     let ps = properties_of (objects cells 0 heads) o in
-    let long : length ps ≡ length (owned o Properties cells) = ap length (properties_are cells o heads b) ∙ length-map (owned o Properties cells) (λ (c : Cell). property_in c.held) in
+    let long : length ps ≡ length (cells_of_lane o Properties cells) = ap length (properties_are cells o heads b) ∙ length-map (cells_of_lane o Properties cells) (λ (c : Cell). property_in c.held) in
     let there : j < length ps = is_there ps j e in
-    let r = from (is_of o Properties) cells j (omega (arith, there, long)) in
-    let own : slice_get (owned o Properties cells) j ≡ Some r.item = subst (λ n. slice_get (owned o Properties cells) n ≡ Some r.item) r.rank (filter_at (is_of o Properties) cells r.place r.item r.at r.is) in
-    let read : slice_get ps j ≡ Some (property_in r.item.held) = ap (λ xs. slice_get xs j) (properties_are cells o heads b) ∙ (slice_get-map (λ (c : Cell). property_in c.held) (owned o Properties cells) j ∙ ap (option_map (λ (c : Cell). property_in c.held)) own) in
+    let r = from (belongs_to_lane o Properties) cells j (omega (arith, there, long)) in
+    let own : slice_get (cells_of_lane o Properties cells) j ≡ Some r.item = subst (λ n. slice_get (cells_of_lane o Properties cells) n ≡ Some r.item) r.rank (filter_at (belongs_to_lane o Properties) cells r.place r.item r.at r.is) in
+    let read : slice_get ps j ≡ Some (property_in r.item.held) = ap (λ xs. slice_get xs j) (properties_are cells o heads b) ∙ (slice_get-map (λ (c : Cell). property_in c.held) (cells_of_lane o Properties cells) j ∙ ap (option_map (λ (c : Cell). property_in c.held)) own) in
     record {
       place = r.place;
       cell = r.item;
       at = r.at;
-      fit = both_are (nat_eq r.item.owner o) (is_named f t (Some (property_in r.item.held))) (both (nat_eq r.item.owner o) (same_lane (lane_of r.item.held) Properties) r.is).0 (ap (is_named f t) (sym read) ∙ e);
+      fit = both_are (nat_eq r.item.owner o) (is_property_named f t (Some (property_in r.item.held))) (both (nat_eq r.item.owner o) (same_lane (lane_of r.item.held) Properties) r.is).0 (ap (is_property_named f t) (sym read) ∙ e);
       rank = r.rank;
     }
   where
-    past : (ps : List (Option (Span × Value))) (j : ℕ) → length ps ≤ j → is_named f t (slice_get ps j) ≡ true → ⊥
-    past ps j l e = clash (sym e ∙ ap (is_named f t) (slice_get_past ps j l))
+    past : (ps : List (Option (Span × Value))) (j : ℕ) → length ps ≤ j → is_property_named f t (slice_get ps j) ≡ true → ⊥
+    past ps j l e = clash (sym e ∙ ap (is_property_named f t) (slice_get_past ps j l))
 
-    is_there : (ps : List (Option (Span × Value))) (j : ℕ) → is_named f t (slice_get ps j) ≡ true → j < length ps
+    is_there : (ps : List (Option (Span × Value))) (j : ℕ) → is_property_named f t (slice_get ps j) ≡ true → j < length ps
     is_there ps j e = elim (either (nat_lt j (length ps))) [
       | inl l ↦ ltb-true j (length ps) l
       | inr l ↦ absurd (past ps j (ltb-false j (length ps) l) e)
@@ -155,20 +155,20 @@ named_at cells heads o f t j b e =
 
 -- ---- the search in a bucket
 
-property_lane : (h : Held) (f : Span → List ℕ) (t : List ℕ) → is_named f t (Some (property_in h)) ≡ true → lane_of h ≡ Properties
+property_lane : (h : Held) (f : Span → List ℕ) (t : List ℕ) → is_property_named f t (Some (property_in h)) ≡ true → lane_of h ≡ Properties
 property_lane (Slot v) f t e = clash (sym e)
 property_lane (Property n v) f t e = refl
 property_lane (Deleted n) f t e = clash (sym e)
 property_lane (Element v) f t e = clash (sym e)
 
-pub named_bucket : (n o : ℕ) (f : Span → List ℕ) (t : List ℕ) (p : Option (Span × Value)) → is_named f t (Some p) ≡ true → bucket_of n f o p ≡ Some (bucket n o t)
+pub named_bucket : (n o : ℕ) (f : Span → List ℕ) (t : List ℕ) (p : Option (Span × Value)) → is_property_named f t (Some p) ≡ true → bucket_of n f o p ≡ Some (bucket n o t)
 named_bucket n o f t None e = clash (sym e)
 named_bucket n o f t (Some p) e = ap (λ x. Some (bucket n o x)) ((bytes_eq-Decides (f p.0) t).0 e)
 
 -- what fits is in the bucket
 pub fit_bucket : (n o : ℕ) (f : Span → List ℕ) (t : List ℕ) (cells : List Cell) (i : ℕ) (c : Cell) → slice_get cells i ≡ Some c → fits f t o c ≡ true → get_or (buckets_of n f cells) i None ≡ Some (bucket n o t)
 fit_bucket n o f t cells i c e h =
-    let s = both (nat_eq c.owner o) (is_named f t (Some (property_in c.held))) h in
+    let s = both (nat_eq c.owner o) (is_property_named f t (Some (property_in c.held))) h in
     key_at n f cells i c e ∙ (ap (λ m. bucket_of n f m (property_in c.held)) (eqb-true c.owner o s.0) ∙ named_bucket n o f t (property_in c.held) s.1)
 
 -- what fits is below the place that is searched next, and that is in the bucket
@@ -215,24 +215,24 @@ search_none cells heads n o f t left b s e =
     let ps = properties_of (objects cells 0 heads) o in
     below_none f t ps (length ps) (λ j h. let r = named_at cells heads o f t j b h in let l = s.below r.place r.cell r.at r.fit in absurd (omega (arith, l, e)))
 
-pub search_found : (cells : List Cell) (heads : List Head) (n o : ℕ) (f : Span → List ℕ) (t : List ℕ) (left : ℕ) (c : Cell) → AreHeads (links cells) heads → o < length heads → IsSearched cells n o f t left → 0 < left → slice_get cells (left - 1) ≡ Some c → fits f t o c ≡ true → IsSpot f t cells heads o (record { place = left - 1; position = c.position })
+pub search_found : (cells : List Cell) (heads : List Head) (n o : ℕ) (f : Span → List ℕ) (t : List ℕ) (left : ℕ) (c : Cell) → AreObjectHeads (links cells) heads → o < length heads → IsSearched cells n o f t left → 0 < left → slice_get cells (left - 1) ≡ Some c → fits f t o c ≡ true → IsSpot f t cells heads o (record { place = left - 1; position = c.position })
 search_found cells heads n o f t left c a b s more e h =
     let ps = properties_of (objects cells 0 heads) o in
-    let w = both (nat_eq c.owner o) (is_named f t (Some (property_in c.held))) h in
+    let w = both (nat_eq c.owner o) (is_property_named f t (Some (property_in c.held))) h in
     let at = at_place cells (left - 1) o f t c e (eqb-true c.owner o w.0) w.1 in
     let read = property_read cells heads (left - 1) o c.position c a b at e in
-    let named : is_named f t (slice_get ps c.position) ≡ true = ap (is_named f t) read ∙ w.1 in
+    let named : is_property_named f t (slice_get ps c.position) ≡ true = ap (is_property_named f t) read ∙ w.1 in
     let rank = ranked cells (left - 1) o Properties c.position c a.linked at e in
     record {
       at = at;
       is = below_last f t ps c.position (length ps) (slice_get_within ps c.position _ read) named (λ j g.
           let r = named_at cells heads o f t j b g in
           let l = s.below r.place r.cell r.at r.fit in
-          let m = rank_grows (is_of o Properties) cells r.place (left - 1) (omega (arith, l)) in
+          let m = rank_grows (belongs_to_lane o Properties) cells r.place (left - 1) (omega (arith, l)) in
           omega (arith, m, r.rank, rank));
     }
   where
-    at_place : (cells : List Cell) (place o : ℕ) (f : Span → List ℕ) (t : List ℕ) (c : Cell) → slice_get cells place ≡ Some c → c.owner ≡ o → is_named f t (Some (property_in c.held)) ≡ true → IsAt (links cells) place o Properties c.position
+    at_place : (cells : List Cell) (place o : ℕ) (f : Span → List ℕ) (t : List ℕ) (c : Cell) → slice_get cells place ≡ Some c → c.owner ≡ o → is_property_named f t (Some (property_in c.held)) ≡ true → IsCellAt (links cells) place o Properties c.position
     at_place cells place o f t c e own named = record {
       inside = let w = slice_get_within cells place c e in omega (arith, w, length-map cells link_of);
       is = λ x ex. let q : link_of c ≡ x = same_link x (link_at cells place c e) ex in (ap (λ (y : Link). y.owner) (sym q) ∙ own, ap (λ (y : Link). y.lane) (sym q) ∙ property_lane c.held f t named, ap (λ (y : Link). y.position) (sym q));

@@ -10,7 +10,7 @@ use Rattle.abc_heap_values.specs.declared.values.Value.{Value}
 use Rattle.abc_heap_values.specs.declared.cell.Lane.{Lane}
 use Rattle.abc_heap_values.specs.declared.cell.Lane.TheVariants.{Slots, Properties, Elements}
 use Rattle.abc_heap_values.specs.Lanes.{lane_of, property_in}
-use Rattle.abc_heap_values.specs.Links.{links, IsAt, held_at}
+use Rattle.abc_heap_values.specs.Links.{links, IsCellAt, held_at}
 use Rattle.abc_heap_values.proofs.Parts.{slice_get_some}
 use Rattle.abc_heap_store.specs.declared.heads.Head.{Head}
 use Rattle.abc_heap_store.specs.declared.search.Spot.{Spot}
@@ -21,9 +21,9 @@ use Rattle.abc_heap_store.specs.Buckets.{bucket, bucket_of, buckets_of, AreBucke
 use Rattle.abc_heap_store.specs.Gaps.{AreGaps}
 use Rattle.abc_heap_store.specs.Heap.{properties_of}
 use Rattle.abc_heap_store.specs.Texts.{text_in, IsTextIn}
-use Rattle.abc_heap_store.specs.Properties.{valued, is_named}
+use Rattle.abc_heap_store.specs.Properties.{with_value, is_property_named}
 use Rattle.abc_heap_store.specs.Spots.{IsSpot}
-use Rattle.abc_heap_store.specs.View.{objects, AreHeads, IsStored}
+use Rattle.abc_heap_store.specs.View.{objects, AreObjectHeads, IsStored}
 use Rattle.abc_heap_store.proofs.Flat.{property_read}
 use Rattle.abc_heap_store.proofs.Gaps.{gaps_held, gaps_gone}
 use Rattle.abc_heap_store.proofs.Indexed.{IsNameIn, index_held, index_gone, index_empty, key_at, same_some, slot_full, element_full}
@@ -49,7 +49,7 @@ element_none (Property n v) e = absurd cc
 element_none (Deleted n) e = absurd cc
 element_none (Element v) e = refl
 
-hold_stored : (hs : Filling Head) (cs new : Filling Cell) (ss : Filling ScopeNode) (fixed : List ℕ) (ts : Filling ℕ) (strings : List (List ℕ)) (b : Buckets) (m : Limits) (p o : ℕ) (l : Lane) (k : ℕ) (h : Held) → IsStored hs cs ss fixed ts strings b m → IsAt (links cs.items) p o l k → lane_of h ≡ l → new ≡ record { items = held_at cs.items p h; limit = cs.limit } → IsNameIn fixed ts.items strings h → ((c : Cell) → slice_get cs.items p ≡ Some c → lane_of c.held ≡ l → bucket_of (length b.lasts.items) (text_in fixed ts.items strings) c.owner (property_in h) ≡ bucket_of (length b.lasts.items) (text_in fixed ts.items strings) c.owner (property_in c.held)) → ((c : Cell) → slice_get cs.items p ≡ Some c → lane_of c.held ≡ l → AreGaps (held_at cs.items p h)) → IsStored hs new ss fixed ts strings b m
+hold_stored : (hs : Filling Head) (cs new : Filling Cell) (ss : Filling ScopeNode) (fixed : List ℕ) (ts : Filling ℕ) (strings : List (List ℕ)) (b : Buckets) (m : Limits) (p o : ℕ) (l : Lane) (k : ℕ) (h : Held) → IsStored hs cs ss fixed ts strings b m → IsCellAt (links cs.items) p o l k → lane_of h ≡ l → new ≡ record { items = held_at cs.items p h; limit = cs.limit } → IsNameIn fixed ts.items strings h → ((c : Cell) → slice_get cs.items p ≡ Some c → lane_of c.held ≡ l → bucket_of (length b.lasts.items) (text_in fixed ts.items strings) c.owner (property_in h) ≡ bucket_of (length b.lasts.items) (text_in fixed ts.items strings) c.owner (property_in c.held)) → ((c : Cell) → slice_get cs.items p ≡ Some c → lane_of c.held ≡ l → AreGaps (held_at cs.items p h)) → IsStored hs new ss fixed ts strings b m
 hold_stored hs cs new ss fixed ts strings b m p o l k h s at lane e name same gaps =
     let i = inside cs.items p o l k at in
     let w = slice_get_some cs.items p i in
@@ -61,46 +61,46 @@ hold_stored hs cs new ss fixed ts strings b m p o l k h s at lane e name same ga
       index = index_held fixed ts.items strings cs new b p w.0 h s.index w.1 e name (same w.0 w.1 own) (gaps w.0 w.1 own);
     }
 
-pub hold_slot : (hs : Filling Head) (cs new : Filling Cell) (ss : Filling ScopeNode) (fixed : List ℕ) (ts : Filling ℕ) (strings : List (List ℕ)) (b : Buckets) (m : Limits) (p o k : ℕ) (v : Value) → IsStored hs cs ss fixed ts strings b m → IsAt (links cs.items) p o Slots k → new ≡ record { items = held_at cs.items p (Slot v); limit = cs.limit } → IsStored hs new ss fixed ts strings b m
+pub hold_slot : (hs : Filling Head) (cs new : Filling Cell) (ss : Filling ScopeNode) (fixed : List ℕ) (ts : Filling ℕ) (strings : List (List ℕ)) (b : Buckets) (m : Limits) (p o k : ℕ) (v : Value) → IsStored hs cs ss fixed ts strings b m → IsCellAt (links cs.items) p o Slots k → new ≡ record { items = held_at cs.items p (Slot v); limit = cs.limit } → IsStored hs new ss fixed ts strings b m
 hold_slot hs cs new ss fixed ts strings b m p o k v s at e = hold_stored hs cs new ss fixed ts strings b m p o Slots k (Slot v) s at refl e (nameless fixed ts.items strings (Slot v) refl) (λ c q lane. ap (bucket_of (length b.lasts.items) (text_in fixed ts.items strings) c.owner) (sym (slot_none c.held lane))) (λ c q lane. gaps_held cs.items p c (Slot v) s.index.gaps q (sym lane) (λ n. refl) (λ n d. absurd (slot_full v n d)))
 
-pub hold_element : (hs : Filling Head) (cs new : Filling Cell) (ss : Filling ScopeNode) (fixed : List ℕ) (ts : Filling ℕ) (strings : List (List ℕ)) (b : Buckets) (m : Limits) (p o k : ℕ) (v : Value) → IsStored hs cs ss fixed ts strings b m → IsAt (links cs.items) p o Elements k → new ≡ record { items = held_at cs.items p (Element v); limit = cs.limit } → IsStored hs new ss fixed ts strings b m
+pub hold_element : (hs : Filling Head) (cs new : Filling Cell) (ss : Filling ScopeNode) (fixed : List ℕ) (ts : Filling ℕ) (strings : List (List ℕ)) (b : Buckets) (m : Limits) (p o k : ℕ) (v : Value) → IsStored hs cs ss fixed ts strings b m → IsCellAt (links cs.items) p o Elements k → new ≡ record { items = held_at cs.items p (Element v); limit = cs.limit } → IsStored hs new ss fixed ts strings b m
 hold_element hs cs new ss fixed ts strings b m p o k v s at e = hold_stored hs cs new ss fixed ts strings b m p o Elements k (Element v) s at refl e (nameless fixed ts.items strings (Element v) refl) (λ c q lane. ap (bucket_of (length b.lasts.items) (text_in fixed ts.items strings) c.owner) (sym (element_none c.held lane))) (λ c q lane. gaps_held cs.items p c (Element v) s.index.gaps q (sym lane) (λ n. refl) (λ n d. absurd (element_full v n d)))
 
 -- a property with another value
-valued_bucket : (n o : ℕ) (f : Span → List ℕ) (v : Value) (p : Option (Span × Value)) → bucket_of n f o (valued v p) ≡ bucket_of n f o p
+valued_bucket : (n o : ℕ) (f : Span → List ℕ) (v : Value) (p : Option (Span × Value)) → bucket_of n f o (with_value v p) ≡ bucket_of n f o p
 valued_bucket n o f v None = refl
 valued_bucket n o f v (Some p) = refl
 
-valued_name : (fixed made : List ℕ) (strings : List (List ℕ)) (v : Value) (p : Option (Span × Value)) → ((n : Span) (w : Value) → p ≡ Some (n, w) → IsTextIn fixed made strings n) → (n : Span) (w : Value) → valued v p ≡ Some (n, w) → IsTextIn fixed made strings n
+valued_name : (fixed made : List ℕ) (strings : List (List ℕ)) (v : Value) (p : Option (Span × Value)) → ((n : Span) (w : Value) → p ≡ Some (n, w) → IsTextIn fixed made strings n) → (n : Span) (w : Value) → with_value v p ≡ Some (n, w) → IsTextIn fixed made strings n
 valued_name fixed made strings v None g n w e = absurd cc
 valued_name fixed made strings v (Some p) g n w e = subst (IsTextIn fixed made strings) (ap (λ (q : Span × Value). q.0) (same_some (p.0, v) (n, w) e)) (g p.0 p.1 refl)
 
 -- what a search found is filled, and in its bucket
-spot_named : (hs : List Head) (cells : List Cell) (o : ℕ) (f : Span → List ℕ) (t : List ℕ) (x : Spot) (c : Cell) → AreHeads (links cells) hs → o < length hs → IsSpot f t cells hs o x → slice_get cells x.place ≡ Some c → is_named f t (Some (property_in c.held)) ≡ true
+spot_named : (hs : List Head) (cells : List Cell) (o : ℕ) (f : Span → List ℕ) (t : List ℕ) (x : Spot) (c : Cell) → AreObjectHeads (links cells) hs → o < length hs → IsSpot f t cells hs o x → slice_get cells x.place ≡ Some c → is_property_named f t (Some (property_in c.held)) ≡ true
 spot_named hs cells o f t x c a b spot e =
     let read = property_read cells hs x.place o x.position c a b spot.at e in
-    ap (is_named f t) (sym read) ∙ found_named f t (properties_of (objects cells 0 hs) o) x.position (length (properties_of (objects cells 0 hs) o)) spot.is
+    ap (is_property_named f t) (sym read) ∙ found_named f t (properties_of (objects cells 0 hs) o) x.position (length (properties_of (objects cells 0 hs) o)) spot.is
 
-spot_filled : (hs : List Head) (cells : List Cell) (o : ℕ) (f : Span → List ℕ) (t : List ℕ) (x : Spot) (c : Cell) → AreHeads (links cells) hs → o < length hs → IsSpot f t cells hs o x → slice_get cells x.place ≡ Some c → is_some (property_in c.held) ≡ true
+spot_filled : (hs : List Head) (cells : List Cell) (o : ℕ) (f : Span → List ℕ) (t : List ℕ) (x : Spot) (c : Cell) → AreObjectHeads (links cells) hs → o < length hs → IsSpot f t cells hs o x → slice_get cells x.place ≡ Some c → is_some (property_in c.held) ≡ true
 spot_filled hs cells o f t x c a b spot e = go (property_in c.held) (spot_named hs cells o f t x c a b spot e)
   where
-    go : (p : Option (Span × Value)) → is_named f t (Some p) ≡ true → is_some p ≡ true
+    go : (p : Option (Span × Value)) → is_property_named f t (Some p) ≡ true → is_some p ≡ true
     go None q = absurd cc
     go (Some p) q = refl
 
-pub spot_bucket : (hs : List Head) (cells : List Cell) (o n : ℕ) (f : Span → List ℕ) (t : List ℕ) (x : Spot) → AreHeads (links cells) hs → o < length hs → IsSpot f t cells hs o x → get_or (buckets_of n f cells) x.place None ≡ Some (bucket n o t)
+pub spot_bucket : (hs : List Head) (cells : List Cell) (o n : ℕ) (f : Span → List ℕ) (t : List ℕ) (x : Spot) → AreObjectHeads (links cells) hs → o < length hs → IsSpot f t cells hs o x → get_or (buckets_of n f cells) x.place None ≡ Some (bucket n o t)
 spot_bucket hs cells o n f t x a b spot =
     let i = inside cells x.place o Properties x.position spot.at in
     let w = slice_get_some cells x.place i in
     let own = (cell_in cells x.place o Properties x.position w.0 spot.at w.1).0 in
     key_at n f cells x.place w.0 w.1 ∙ (ap (λ m. bucket_of n f m (property_in w.0.held)) own ∙ named_bucket n o f t (property_in w.0.held) (spot_named hs cells o f t x w.0 a b spot w.1))
 
-valued_full : (v : Value) (p : Option (Span × Value)) → is_some p ≡ true → ◌≡◌ {A = Option (Span × Value)} None (valued v p) → ⊥
+valued_full : (v : Value) (p : Option (Span × Value)) → is_some p ≡ true → ◌≡◌ {A = Option (Span × Value)} None (with_value v p) → ⊥
 valued_full v None s e = absurd cc
 valued_full v (Some p) s e = absurd cc
 
-pub hold_put : (hs : Filling Head) (cs new : Filling Cell) (ss : Filling ScopeNode) (fixed : List ℕ) (ts : Filling ℕ) (strings : List (List ℕ)) (b : Buckets) (m : Limits) (o : ℕ) (t : List ℕ) (x : Spot) (c : Cell) (h : Held) (v : Value) → IsStored hs cs ss fixed ts strings b m → o < length hs.items → IsSpot (text_in fixed ts.items strings) t cs.items hs.items o x → slice_get cs.items x.place ≡ Some c → lane_of h ≡ Properties → property_in h ≡ valued v (property_in c.held) → new ≡ record { items = held_at cs.items x.place h; limit = cs.limit } → IsStored hs new ss fixed ts strings b m
+pub hold_put : (hs : Filling Head) (cs new : Filling Cell) (ss : Filling ScopeNode) (fixed : List ℕ) (ts : Filling ℕ) (strings : List (List ℕ)) (b : Buckets) (m : Limits) (o : ℕ) (t : List ℕ) (x : Spot) (c : Cell) (h : Held) (v : Value) → IsStored hs cs ss fixed ts strings b m → o < length hs.items → IsSpot (text_in fixed ts.items strings) t cs.items hs.items o x → slice_get cs.items x.place ≡ Some c → lane_of h ≡ Properties → property_in h ≡ with_value v (property_in c.held) → new ≡ record { items = held_at cs.items x.place h; limit = cs.limit } → IsStored hs new ss fixed ts strings b m
 hold_put hs cs new ss fixed ts strings b m o t x c h v s in_heads spot is lane put e =
     let n = length b.lasts.items in
     let f = text_in fixed ts.items strings in
@@ -109,7 +109,7 @@ hold_put hs cs new ss fixed ts strings b m o t x c h v s in_heads spot is lane p
     hold_stored hs cs new ss fixed ts strings b m p o Properties x.position h s spot.at lane e
     (λ name w q. valued_name fixed ts.items strings v (property_in c.held) (λ name w q. s.index.names p c name w is q) name w (sym put ∙ q))
     (λ d q l. let same : c ≡ d = one_cell d q in ap (bucket_of n f d.owner) put ∙ (valued_bucket n d.owner f v (property_in c.held) ∙ ap (λ (x : Cell). bucket_of n f d.owner (property_in x.held)) same))
-    (λ d q l. gaps_held cs.items p d h s.index.gaps q (lane ∙ sym l) (λ n. put ∙ ap (valued v) (ap (λ (x : Cell). property_in x.held) (one_cell d q) ∙ n)) (λ m g. absurd (valued_full v (property_in c.held) there (sym (ap property_in g) ∙ put))))
+    (λ d q l. gaps_held cs.items p d h s.index.gaps q (lane ∙ sym l) (λ n. put ∙ ap (with_value v) (ap (λ (x : Cell). property_in x.held) (one_cell d q) ∙ n)) (λ m g. absurd (valued_full v (property_in c.held) there (sym (ap property_in g) ∙ put))))
   where
     one_cell : (d : Cell) → slice_get cs.items x.place ≡ Some d → c ≡ d
     one_cell d q = cc
@@ -136,7 +136,7 @@ empty_stored hs cs ss fixed ts strings b m n eh ec es et small some lasts before
     let no_texts : ts.items ≡ [] = ap (λ (f : Filling ℕ). f.items) et in
     let limit : cs.limit ≡ m.cells = ap (λ (f : Filling Cell). f.limit) ec in
     record {
-      heads = subst (λ xs. AreHeads (links xs) hs.items) (sym no_cells) (subst (AreHeads []) (sym no_heads) nothing);
+      heads = subst (λ xs. AreObjectHeads (links xs) hs.items) (sym no_cells) (subst (AreObjectHeads []) (sym no_heads) nothing);
       limits = record {
         objects = ap (λ (f : Filling Head). f.limit) eh;
         cells = limit;
@@ -148,5 +148,5 @@ empty_stored hs cs ss fixed ts strings b m n eh ec es et small some lasts before
       index = subst (λ t. IsIndexed fixed t strings cs b) (sym no_texts) (index_empty fixed strings cs b n m.cells no_cells (omega (arith, limit)) some lasts befores);
     }
   where
-    nothing : AreHeads [] []
+    nothing : AreObjectHeads [] []
     nothing = record { linked = λ i x e. absurd cc; heads = λ o h e. absurd cc; owners = λ i x e. absurd cc }

@@ -10,13 +10,13 @@ use Rattle.abc_heap_store.specs.Texts.{text_in, IsTextIn}
 use Rattle.abc_heap_store.specs.Gaps.{AreGaps}
 
 -- a hash goes on over some bytes
-unfoldable pub hashed : ℕ → List ℕ → ℕ
-hashed h [] = h
-hashed h (b ∷ t) = hashed ((h * 65599 + b) % 4294967296) t
+unfoldable pub hash_on : ℕ → List ℕ → ℕ
+hash_on h [] = h
+hash_on h (b ∷ t) = hash_on ((h * 65599 + b) % 4294967296) t
 
 -- the bucket of a text on an object, where there are n buckets
 abbrev pub bucket : ℕ → ℕ → List ℕ → ℕ
-bucket n o t = hashed o t % n
+bucket n o t = hash_on o t % n
 
 -- the bucket of what a cell holds, where that is a property
 abbrev pub bucket_of : ℕ → (Span → List ℕ) → ℕ → Option (Span × Value) → Option ℕ
@@ -26,14 +26,14 @@ bucket_of n f o (Some p) = Some (bucket n o (f p.0))
 abbrev pub buckets_of : ℕ → (Span → List ℕ) → List Cell → List (Option ℕ)
 buckets_of n f cells = map (λ (c : Cell). bucket_of n f c.owner (property_in c.held)) cells
 
-abbrev pub is_in : ℕ → Option ℕ → Bool
-is_in b None = false
-is_in b (Some c) = nat_eq c b
+abbrev pub is_in_bucket : ℕ → Option ℕ → Bool
+is_in_bucket b None = false
+is_in_bucket b (Some c) = nat_eq c b
 
 -- the last place below n that is in a bucket, counted from 1, and 0 where none is
 abbrev pub last_in : List (Option ℕ) → ℕ → ℕ → ℕ
 last_in ks b zero = 0
-last_in ks b (suc n) = if is_in b (get_or ks n None) then suc n else last_in ks b n
+last_in ks b (suc n) = if is_in_bucket b (get_or ks n None) then suc n else last_in ks b n
 
 -- what is known of each bucket and of each place in one
 pub record AreBuckets (ks : List (Option ℕ)) (ls : List ℕ) (bs : List ℕ) : Type 0 where

@@ -10,7 +10,7 @@ use Rattle.abc_heap_store.specs.declared.records.ScopeId.{ScopeId}
 use Rattle.abc_heap_store.specs.declared.records.ScopeEntry.{ScopeEntry}
 use Rattle.abc_heap_store.specs.declared.store.ClassParts.{ClassParts}
 use Rattle.abc_heap_store.specs.Heap.{Object, Heap, HasRoomFor, obj_id}
-use Rattle.abc_heap_store.specs.Scopes.{nodes, top, scope_id}
+use Rattle.abc_heap_store.specs.Scopes.{nodes, top_of_scopes, scope_id}
 
 -- ---- one object
 
@@ -53,12 +53,12 @@ with_more_elements vs ob = record ob { elements = ob.elements ++ vs }
 -- ---- what is made at the end
 
 -- an object without slots, properties and elements
-abbrev pub bare : ℕ → Option ObjId → What → Object
-bare layout delegate what = record { layout = layout; delegate = delegate; slots = []; properties = []; elements = []; what = what }
+abbrev pub bare_object : ℕ → Option ObjId → What → Object
+bare_object layout delegate what = record { layout = layout; delegate = delegate; slots = []; properties = []; elements = []; what = what }
 
 -- one more object, with its slots
 abbrev pub with_made : List Value → ℕ → Option ObjId → What → Heap → Heap
-with_made starts layout delegate what h = record h { objects = h.objects ++ with_more_slots starts (bare layout delegate what) ∷ [] }
+with_made starts layout delegate what h = record h { objects = h.objects ++ with_more_slots starts (bare_object layout delegate what) ∷ [] }
 
 -- more scope nodes, above a saved one
 abbrev pub with_scopes : Option ScopeId → List ScopeEntry → Heap → Heap
@@ -74,13 +74,13 @@ pub record IsMade (old : Heap) (new : Heap) (o : ObjId) (starts : List Value) (l
 pub record IsFunctionMade (old : Heap) (new : Heap) (o : ObjId) (starts : List Value) (layout : ℕ) (method : ℕ) (home : ℕ) (delegate : Option ObjId) (saved : Option ScopeId) (scopes : List ScopeEntry) : Type 0 where
   pub number : o.0 ≡ length old.objects
   pub room : HasRoomFor old 1 (length starts + length scopes)
-  pub heap : new ≡ with_made starts layout delegate (Closure method home (top (length old.scopes) saved scopes) None) (with_scopes saved scopes old)
+  pub heap : new ≡ with_made starts layout delegate (Closure method home (top_of_scopes (length old.scopes) saved scopes) None) (with_scopes saved scopes old)
 
 -- a class is made: its prototype object, then the class object, whose first slot holds it
 abbrev pub with_class : List Value → List Value → ClassParts → Option ScopeId → List ScopeEntry → Heap → Heap
 with_class ps cs parts saved scopes h =
     let o = length h.objects + 1 in
-    let statics = top (length h.scopes) saved scopes in
+    let statics = top_of_scopes (length h.scopes) saved scopes in
     let own = (record { object = obj_id o; with_flag = false }) ∷ [] in
     let what = ClassObject parts.class parts.home statics (scope_id (length h.scopes + length scopes)) in
     let made = with_object (with_slot 0 (Obj (obj_id (length h.objects)))) o
@@ -97,7 +97,7 @@ pub record IsClassMade (old : Heap) (new : Heap) (o : ObjId) (ps : List Value) (
 
 -- an array is made, which has no slots
 abbrev pub with_array : List Value → ℕ → Option ObjId → Heap → Heap
-with_array elements layout delegate h = record h { objects = h.objects ++ with_more_elements elements (bare layout delegate Array) ∷ [] }
+with_array elements layout delegate h = record h { objects = h.objects ++ with_more_elements elements (bare_object layout delegate Array) ∷ [] }
 
 -- array o is made, of these elements, where there is room for it and for them
 pub record IsArrayMade (old : Heap) (new : Heap) (o : ObjId) (elements : List Value) (layout : ℕ) (delegate : Option ObjId) : Type 0 where

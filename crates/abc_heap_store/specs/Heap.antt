@@ -63,8 +63,8 @@ abbrev pub IsFull : Heap → Heap → ℕ → ℕ → ℕ → Limit → Full →
 IsFull old new used need limit which e = (e ≡ record { 0 = which }) × (limit < used + need) × (new ≡ old)
 
 -- need more cells are there, and the heap is the new one
-abbrev pub Fits : Heap → Heap → ℕ → Heap → Type 0
-Fits old new need grown = (cells_used old + need ≤ old.limits.cells) × (new ≡ grown)
+abbrev pub FitsCells : Heap → Heap → ℕ → Heap → Type 0
+FitsCells old new need grown = (cells_used old + need ≤ old.limits.cells) × (new ≡ grown)
 
 -- so many objects more, and so many cells more, are within the limits
 abbrev pub HasRoomFor : Heap → ℕ → ℕ → Type 0
@@ -99,8 +99,8 @@ object_at (ob ∷ obs) zero = ob
 object_at (ob ∷ obs) (suc o) = object_at obs o
 
 -- the slots of object o
-abbrev pub slots_of : List Object → ℕ → List Value
-slots_of obs o = (object_at obs o).slots
+abbrev pub slots_of_object : List Object → ℕ → List Value
+slots_of_object obs o = (object_at obs o).slots
 
 -- the properties of object o, by place; none at a place where one was deleted
 abbrev pub properties_of : List Object → ℕ → List (Option (Span × Value))

@@ -7,28 +7,28 @@ use Rattle.abc_heap_store.specs.Heap.{Object, Heap, properties_of}
 use Rattle.abc_heap_store.specs.Texts.{text_of}
 
 -- the search among an object's own properties: the last of that text
-abbrev pub is_named : (Span → List ℕ) → List ℕ → Option (Option (Span × Value)) → Bool
-is_named f t None = false
-is_named f t (Some None) = false
-is_named f t (Some (Some p)) = bytes_eq (f p.0) t
+abbrev pub is_property_named : (Span → List ℕ) → List ℕ → Option (Option (Span × Value)) → Bool
+is_property_named f t None = false
+is_property_named f t (Some None) = false
+is_property_named f t (Some (Some p)) = bytes_eq (f p.0) t
 
 abbrev pub place_below : (Span → List ℕ) → List ℕ → List (Option (Span × Value)) → ℕ → Option ℕ
 place_below f t ps zero = None
-place_below f t ps (suc k) = if is_named f t (slice_get ps k) then Some k else place_below f t ps k
+place_below f t ps (suc k) = if is_property_named f t (slice_get ps k) then Some k else place_below f t ps k
 
 -- the place of the last property of text t, if there is one; `f` gives the text of a name
 abbrev pub place_named : (Span → List ℕ) → List ℕ → List (Option (Span × Value)) → Option ℕ
 place_named f t ps = place_below f t ps (length ps)
 
 -- what stands at a place; position k + 1 is place k
-abbrev pub filled : Option (Option (Span × Value)) → Option (Span × Value)
-filled None = None
-filled (Some p) = p
+abbrev pub present_property : Option (Option (Span × Value)) → Option (Span × Value)
+present_property None = None
+present_property (Some p) = p
 
 -- the property at a position, counted from 1, if one is there
 abbrev pub at_position : List (Option (Span × Value)) → ℕ → Option (Span × Value)
 at_position ps zero = None
-at_position ps (suc k) = filled (slice_get ps k)
+at_position ps (suc k) = present_property (slice_get ps k)
 
 -- the name of a property, where there is one
 abbrev pub the_name : Option (Span × Value) → Option Span
@@ -41,21 +41,21 @@ the_value None = None
 the_value (Some p) = Some p.1
 
 -- the value of the property of a text
-abbrev pub found : List (Option (Span × Value)) → Option ℕ → Option Value
-found ps None = None
-found ps (Some k) = the_value (filled (slice_get ps k))
+abbrev pub found_property : List (Option (Span × Value)) → Option ℕ → Option Value
+found_property ps None = None
+found_property ps (Some k) = the_value (present_property (slice_get ps k))
 
 abbrev pub own_property : (Span → List ℕ) → List ℕ → List (Option (Span × Value)) → Option Value
-own_property f t ps = found ps (place_named f t ps)
+own_property f t ps = found_property ps (place_named f t ps)
 
 -- a write: an own property takes the value, else a new one is added at the end
-abbrev pub valued : Value → Option (Span × Value) → Option (Span × Value)
-valued v None = None
-valued v (Some p) = Some (p.0, v)
+abbrev pub with_value : Value → Option (Span × Value) → Option (Span × Value)
+with_value v None = None
+with_value v (Some p) = Some (p.0, v)
 
 abbrev pub put_at : Span → Value → List (Option (Span × Value)) → Option ℕ → List (Option (Span × Value))
 put_at n v ps None = ps ++ Some (n, v) ∷ []
-put_at n v ps (Some k) = set ps k (valued v (filled (slice_get ps k)))
+put_at n v ps (Some k) = set ps k (with_value v (present_property (slice_get ps k)))
 
 -- the object after v is written to its property of text t; n is the name of a new one, and `f` gives the text of a name
 abbrev pub with_put : (Span → List ℕ) → List ℕ → Span → Value → Object → Object
@@ -91,8 +91,8 @@ abbrev pub next_filled : List (Option (Span × Value)) → ℕ → Option ℕ
 next_filled ps k = first_filled k (drop k ps)
 
 -- an object's own property of the text of a name
-abbrev pub place_in : List (List ℕ) → Heap → ℕ → Span → Option ℕ
-place_in pool h o n = place_named (text_of pool h) (text_of pool h n) (properties_of h.objects o)
+abbrev pub place_of_property : List (List ℕ) → Heap → ℕ → Span → Option ℕ
+place_of_property pool h o n = place_named (text_of pool h) (text_of pool h n) (properties_of h.objects o)
 
 -- the value of object o's own property that has the same text as name n, if there is one
 abbrev pub property_in_heap : List (List ℕ) → Heap → ℕ → Span → Option Value

@@ -13,6 +13,6 @@ nodes at below [] = []
 nodes at below (e ∷ es) = (record { entry = e; parent = below }) ∷ nodes (at + 1) (Some (scope_id at)) es
 
 -- the number of the topmost of these nodes; `below` where there is none
-abbrev pub top : ℕ → Option ScopeId → List ScopeEntry → Option ScopeId
-top at below [] = below
-top at below (e ∷ es) = top (at + 1) (Some (scope_id at)) es
+abbrev pub top_of_scopes : ℕ → Option ScopeId → List ScopeEntry → Option ScopeId
+top_of_scopes at below [] = below
+top_of_scopes at below (e ∷ es) = top_of_scopes (at + 1) (Some (scope_id at)) es

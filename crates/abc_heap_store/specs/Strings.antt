@@ -2,11 +2,11 @@
 use Rattle.std.specs.Prelude.{◌≡◌, ℕ, ◌-◌, ◌≤◌, List, [], ◌∷◌, take, drop}
 
 -- the texts from a place on
-abbrev pub pieces : ℕ → List ℕ → List ℕ → List (List ℕ)
-pieces at [] bytes = []
-pieces at (e ∷ ends) bytes = take (e - at) (drop at bytes) ∷ pieces e ends bytes
+abbrev pub texts_from : ℕ → List ℕ → List ℕ → List (List ℕ)
+texts_from at [] bytes = []
+texts_from at (e ∷ ends) bytes = take (e - at) (drop at bytes) ∷ texts_from e ends bytes
 
 -- the ends rise from a place to the end of the block
-abbrev pub AreEnds : ℕ → List ℕ → ℕ → Type 0
-AreEnds at [] n = at ≡ n
-AreEnds at (e ∷ ends) n = (at ≤ e) × AreEnds e ends n
+abbrev pub AreTextEnds : ℕ → List ℕ → ℕ → Type 0
+AreTextEnds at [] n = at ≡ n
+AreTextEnds at (e ∷ ends) n = (at ≤ e) × AreTextEnds e ends n

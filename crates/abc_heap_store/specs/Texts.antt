@@ -9,18 +9,18 @@ pool_text pool zero = []
 pool_text pool (suc i) = get_or pool i []
 
 -- a part in which texts are, by its number: 0 the fixed texts, 1 the texts made, and from 2 on the strings of the pool
-abbrev pub part_of : List ℕ → List ℕ → List (List ℕ) → ℕ → List ℕ
-part_of fixed made pool zero = fixed
-part_of fixed made pool (suc zero) = made
-part_of fixed made pool (suc (suc i)) = pool_text pool i
+abbrev pub part_of_text : List ℕ → List ℕ → List (List ℕ) → ℕ → List ℕ
+part_of_text fixed made pool zero = fixed
+part_of_text fixed made pool (suc zero) = made
+part_of_text fixed made pool (suc (suc i)) = pool_text pool i
 
 -- the bytes of a span
 abbrev pub text_in : List ℕ → List ℕ → List (List ℕ) → Span → List ℕ
-text_in fixed made pool s = take s.len (drop s.start (part_of fixed made pool s.part))
+text_in fixed made pool s = take s.len (drop s.start (part_of_text fixed made pool s.part))
 
 -- the span ends within its part
 abbrev pub IsTextIn : List ℕ → List ℕ → List (List ℕ) → Span → Type 0
-IsTextIn fixed made pool s = s.start + s.len ≤ length (part_of fixed made pool s.part)
+IsTextIn fixed made pool s = s.start + s.len ≤ length (part_of_text fixed made pool s.part)
 
 -- the span lies in its part
 abbrev pub IsText : List (List ℕ) → Heap → Span → Type 0

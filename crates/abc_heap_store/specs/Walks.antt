@@ -6,14 +6,14 @@ use Rattle.abc_heap_store.specs.What.{is_array}
 use Rattle.abc_heap_store.specs.Heap.{Object}
 use Rattle.abc_heap_store.specs.Properties.{walked_next}
 
-abbrev pub goes_on : Option ℕ → (ℕ → List ℕ) → List ℕ
-goes_on None f = []
-goes_on (Some p) f = p ∷ f p
+abbrev pub goes_on_from : Option ℕ → (ℕ → List ℕ) → List ℕ
+goes_on_from None f = []
+goes_on_from (Some p) f = p ∷ f p
 
 -- the first n positions that a walk meets from position k on, each asked for from the one before it
-abbrev pub met : (ℕ → Option ℕ) → ℕ → ℕ → List ℕ
-met next zero k = []
-met next (suc n) k = goes_on (next k) (λ p. met next n p)
+abbrev pub walk_positions : (ℕ → Option ℕ) → ℕ → ℕ → List ℕ
+walk_positions next zero k = []
+walk_positions next (suc n) k = goes_on_from (next k) (λ p. walk_positions next n p)
 
 -- the filled positions above k, where the list has the places from k on
 abbrev pub filled_above : ℕ → List (Option (Span × Value)) → List ℕ
@@ -32,4 +32,4 @@ positions ob = if is_array ob.what then counted_above 0 (length ob.elements) els
 
 -- a walk from 0 on meets these, in their order, and no more
 abbrev pub MeetsEachPosition : Type 0
-MeetsEachPosition = (ob : Object) (n : ℕ) → met (walked_next ob) n 0 ≡ take n (positions ob)
+MeetsEachPosition = (ob : Object) (n : ℕ) → walk_positions (walked_next ob) n 0 ≡ take n (positions ob)

@@ -1,5 +1,5 @@
 ghost use Rattle.std.specs.Prelude.{◌≡◌, ◌<◌, ◌≤◌, ◌+◌, ◌*◌, ◌%◌, ◌^◌, ◌++◌, ◌∷◌, [], List, Option, ℕ, length, Some, None, get_or, set, replicate, IfOk};
-ghost use Rattle.abc_heap_store.specs.Buckets.{hashed as the_hash, bucket as the_bucket, AreBuckets};
+ghost use Rattle.abc_heap_store.specs.Buckets.{hash_on as the_hash, bucket as the_bucket, AreBuckets};
 
 use abc_base::NoMemory;
 use abc_heap_values::Reserved;
@@ -37,7 +37,8 @@ fn hashed(owner: u32, text: &[u8]) -> u64
 impl Buckets {
     /// Some buckets, at least one, in which nothing is, with room for some places.
     pub fn empty(alloc: Global, buckets: u32, places: u32) -> Result<Buckets, NoMemory>
-        ensures { IfOk result (λ b. (b.lasts.items ≡ replicate buckets 0) × (b.befores ≡ record { items = []; limit = places })) }
+        ensures { IfOk result (λ b. (b.lasts.items ≡ replicate buckets 0)
+            × (b.befores ≡ record { items = []; limit = places })) }
     {
         Ok(Buckets {
             lasts: vec![in alloc; 0; buckets as usize]?,
@@ -94,7 +95,8 @@ impl Buckets {
     fn reach(&mut self, place: u32)
         requires { place < self.old.befores.limit }
         ensures reached { place < length self.new.befores.items }
-        ensures same { ((p : ℕ) → get_or self.new.befores.items p 0 ≡ get_or self.old.befores.items p 0) × (length self.old.befores.items ≤ length self.new.befores.items) }
+        ensures same { ((p : ℕ) → get_or self.new.befores.items p 0 ≡ get_or self.old.befores.items p 0)
+            × (length self.old.befores.items ≤ length self.new.befores.items) }
         ensures lasts { self.new.lasts.items ≡ self.old.lasts.items }
         ensures limit { self.new.befores.limit ≡ self.old.befores.limit }
     {
@@ -108,8 +110,11 @@ impl Buckets {
         requires bucket { bucket < length self.old.lasts.items }
         requires place { place < self.old.befores.limit }
         requires small { place + 1 < 2 ^ 32 }
-        ensures added { (ks : List (Option ℕ)) → place ≡ length ks → AreBuckets ks self.old.lasts.items self.old.befores.items → AreBuckets (ks ++ Some bucket ∷ []) self.new.lasts.items self.new.befores.items }
-        ensures sizes { (length self.new.lasts.items ≡ length self.old.lasts.items) × (self.new.befores.limit ≡ self.old.befores.limit) }
+        ensures added { (ks : List (Option ℕ)) → place ≡ length ks
+            → AreBuckets ks self.old.lasts.items self.old.befores.items
+            → AreBuckets (ks ++ Some bucket ∷ []) self.new.lasts.items self.new.befores.items }
+        ensures sizes { (length self.new.lasts.items ≡ length self.old.lasts.items)
+            × (self.new.befores.limit ≡ self.old.befores.limit) }
     {
         let last = self.last(bucket);
         self.reach(place);
@@ -120,8 +125,11 @@ impl Buckets {
     /// The place in a bucket that a place is the one before of.
     fn above(&self, bucket: usize, place: u32) -> u32
         requires bucket { bucket < length self.now.lasts.items }
-        requires place { (ks : List (Option ℕ)) × AreBuckets ks self.now.lasts.items self.now.befores.items × (get_or ks place None ≡ Some bucket) × (place + 1 < get_or self.now.lasts.items bucket 0) }
-        ensures { (ks : List (Option ℕ)) → AreBuckets ks self.now.lasts.items self.now.befores.items → get_or ks place None ≡ Some bucket → (get_or ks result None ≡ Some bucket) × (get_or self.now.befores.items result 0 ≡ place + 1) }
+        requires place { (ks : List (Option ℕ)) × AreBuckets ks self.now.lasts.items self.now.befores.items
+            × (get_or ks place None ≡ Some bucket) × (place + 1 < get_or self.now.lasts.items bucket 0) }
+        ensures { (ks : List (Option ℕ)) → AreBuckets ks self.now.lasts.items self.now.befores.items
+            → get_or ks place None ≡ Some bucket
+            → (get_or ks result None ≡ Some bucket) × (get_or self.now.befores.items result 0 ≡ place + 1) }
     {
         let mut above = self.last_place(bucket);
         let mut before = self.place_before(above);
@@ -135,9 +143,13 @@ impl Buckets {
     /// Takes a place out of its bucket.
     pub fn remove(&mut self, bucket: usize, place: u32)
         requires bucket { bucket < length self.old.lasts.items }
-        requires place { (ks : List (Option ℕ)) × AreBuckets ks self.old.lasts.items self.old.befores.items × (get_or ks place None ≡ Some bucket) }
-        ensures removed { (ks : List (Option ℕ)) → AreBuckets ks self.old.lasts.items self.old.befores.items → get_or ks place None ≡ Some bucket → AreBuckets (set ks place None) self.new.lasts.items self.new.befores.items }
-        ensures sizes { (length self.new.lasts.items ≡ length self.old.lasts.items) × (self.new.befores.limit ≡ self.old.befores.limit) }
+        requires place { (ks : List (Option ℕ)) × AreBuckets ks self.old.lasts.items self.old.befores.items
+            × (get_or ks place None ≡ Some bucket) }
+        ensures removed { (ks : List (Option ℕ)) → AreBuckets ks self.old.lasts.items self.old.befores.items
+            → get_or ks place None ≡ Some bucket
+            → AreBuckets (set ks place None) self.new.lasts.items self.new.befores.items }
+        ensures sizes { (length self.new.lasts.items ≡ length self.old.lasts.items)
+            × (self.new.befores.limit ≡ self.old.befores.limit) }
     {
         let before = self.before(place);
         let top = self.last_place(bucket);

@@ -3,7 +3,7 @@ ghost use Rattle.abc_heap_values.specs.Links.{links};
 ghost use Rattle.abc_heap_store.specs.Gaps.{empty_in, AreEmpty, AreGaps};
 ghost use Rattle.abc_heap_store.specs.Heap.{properties_of};
 ghost use Rattle.abc_heap_store.specs.Properties.{next_filled};
-ghost use Rattle.abc_heap_store.specs.View.{objects, AreHeads};
+ghost use Rattle.abc_heap_store.specs.View.{objects, AreObjectHeads};
 ghost use Rattle.abc_heap_store.specs.Spots.{IsSame};
 
 use crate::heads::{Head, property_count, property_place};
@@ -21,11 +21,12 @@ fn known_empty(held: Held) -> u32
 
 /// How many positions are known to be empty from place `k` of an object's list on: none where that is filled.
 fn empty_from(heads: &Reserved<Head>, cells: &Reserved<Cell>, o: u32, k: u32) -> u32
-    requires heads { AreHeads (links cells.now.items) heads.now.items }
+    requires heads { AreObjectHeads (links cells.now.items) heads.now.items }
     requires gaps { AreGaps cells.now.items }
     requires property { k < length (properties_of (objects cells.now.items 0 heads.now.items) o) }
     ensures empty { AreEmpty (properties_of (objects cells.now.items 0 heads.now.items) o) k result }
-    ensures filled { result ≡ 0 → next_filled (properties_of (objects cells.now.items 0 heads.now.items) o) k ≡ Some (k + 1) }
+    ensures filled { result ≡ 0
+        → next_filled (properties_of (objects cells.now.items 0 heads.now.items) o) k ≡ Some (k + 1) }
     ensures within { k + result ≤ length (properties_of (objects cells.now.items 0 heads.now.items) o) }
 {
     let place = property_place(heads, cells, o, k);
@@ -34,7 +35,7 @@ fn empty_from(heads: &Reserved<Head>, cells: &Reserved<Cell>, o: u32, k: u32) ->
 
 /// The least filled position above `from`. Each step passes all positions that are known to be empty.
 pub fn next_from(heads: &Reserved<Head>, cells: &Reserved<Cell>, o: u32, from: u32) -> Option<u32>
-    requires heads { AreHeads (links cells.now.items) heads.now.items }
+    requires heads { AreObjectHeads (links cells.now.items) heads.now.items }
     requires gaps { AreGaps cells.now.items }
     requires inside { o < length heads.now.items }
     ensures { result ≡ next_filled (properties_of (objects cells.now.items 0 heads.now.items) o) from }
@@ -53,11 +54,12 @@ pub fn next_from(heads: &Reserved<Head>, cells: &Reserved<Cell>, o: u32, from: u
 
 /// Whether `size` positions from place `k` on are known to be empty, and as many after them.
 fn are_empty(heads: &Reserved<Head>, cells: &Reserved<Cell>, o: u32, k: u32, size: u32) -> bool
-    requires heads { AreHeads (links cells.now.items) heads.now.items }
+    requires heads { AreObjectHeads (links cells.now.items) heads.now.items }
     requires gaps { AreGaps cells.now.items }
     requires property { k + size < length (properties_of (objects cells.now.items 0 heads.now.items) o) }
     requires small { k + size < 2 ^ 32 }
-    ensures { result ≡ true → AreEmpty (properties_of (objects cells.now.items 0 heads.now.items) o) k (2 * size) }
+    ensures { result ≡ true
+        → AreEmpty (properties_of (objects cells.now.items 0 heads.now.items) o) k (2 * size) }
 {
     let low = empty_from(heads, cells, o, k);
     if low < size {
@@ -80,7 +82,7 @@ fn first_of_pair(k: u32, pair: u32) -> u32
 
 /// Where both halves of the `2 * size` places around `k` are known to be empty, remembers that for all of them, and tells so.
 fn join(heads: &Reserved<Head>, cells: &mut Reserved<Cell>, o: u32, k: u32, size: u32) -> bool
-    requires heads { AreHeads (links cells.old.items) heads.now.items }
+    requires heads { AreObjectHeads (links cells.old.items) heads.now.items }
     requires gaps { AreGaps cells.old.items }
     requires inside { o < length heads.now.items }
     requires property { k < length (properties_of (objects cells.old.items 0 heads.now.items) o) }
@@ -110,7 +112,7 @@ fn join(heads: &Reserved<Head>, cells: &mut Reserved<Cell>, o: u32, k: u32, size
 /// halves are empty. So of a list that is cut into pieces of 2^n positions each piece that is empty is known at its first
 /// position, and no more pieces are joined than positions are emptied.
 pub fn join_around(heads: &Reserved<Head>, cells: &mut Reserved<Cell>, o: u32, k: u32)
-    requires heads { AreHeads (links cells.old.items) heads.now.items }
+    requires heads { AreObjectHeads (links cells.old.items) heads.now.items }
     requires gaps { AreGaps cells.old.items }
     requires inside { o < length heads.now.items }
     requires property { k < length (properties_of (objects cells.old.items 0 heads.now.items) o) }

@@ -1,15 +1,15 @@
 ghost use Rattle.std.specs.Prelude.{◌≡◌, ◌<◌, ◌≤◌, ◌+◌, ◌^◌, ℕ, length, Some, None, slice_get, true, [], ◌∷◌, ◌++◌};
-ghost use Rattle.abc_heap_values.specs.Lanes.{value_in, property_in, lane_of};
-ghost use Rattle.abc_heap_values.specs.Links.{links, held_at, IsAt, IsAdded};
+ghost use Rattle.abc_heap_values.specs.Lanes.{value_of_held, property_in, lane_of};
+ghost use Rattle.abc_heap_values.specs.Links.{links, held_at, IsCellAt, IsCellAdded};
 ghost use Rattle.abc_heap_values.specs.declared.cell.Held.TheVariants.{Element, Property};
 ghost use Rattle.abc_heap_values.specs.declared.cell.Lane.TheVariants.{Slots, Properties, Elements};
 ghost use Rattle.abc_heap_values.specs.Filling.{HasRoom};
 ghost use Rattle.abc_heap_store.specs.Buckets.{KeepsIndex};
 ghost use Rattle.abc_heap_store.specs.What.{what_in, elements_in, is_array};
-ghost use Rattle.abc_heap_store.specs.Heap.{object_at, slots_of, properties_of, elements_of};
-ghost use Rattle.abc_heap_store.specs.Properties.{at_position, the_value, the_name, valued};
-ghost use Rattle.abc_heap_store.specs.Changes.{change, with_new_property, with_new_element, with_more_slots, bare};
-ghost use Rattle.abc_heap_store.specs.View.{objects, AreHeads};
+ghost use Rattle.abc_heap_store.specs.Heap.{object_at, slots_of_object, properties_of, elements_of};
+ghost use Rattle.abc_heap_store.specs.Properties.{at_position, the_value, the_name, with_value};
+ghost use Rattle.abc_heap_store.specs.Changes.{change, with_new_property, with_new_element, with_more_slots, bare_object};
+ghost use Rattle.abc_heap_store.specs.View.{objects, AreObjectHeads};
 ghost use Rattle.abc_heap_store.specs.Spots.{IsGrown, IsFilling, IsRevalued};
 
 use crate::starts::Starts;
@@ -39,7 +39,7 @@ pub fn head_at(heads: &Reserved<Head>, o: u32) -> Head
 /// The value that a cell holds.
 #[inline(always)]
 pub fn value_of(held: Held) -> Value
-    ensures { result ≡ value_in held }
+    ensures { result ≡ value_of_held held }
 {
     match held {
         Held::Slot(v) => v,
@@ -51,10 +51,10 @@ pub fn value_of(held: Held) -> Value
 
 /// The place of a slot.
 pub fn slot_place(heads: &Reserved<Head>, cells: &Reserved<Cell>, o: u32, k: u32) -> u32
-    requires heads { AreHeads (links cells.now.items) heads.now.items }
+    requires heads { AreObjectHeads (links cells.now.items) heads.now.items }
     requires small { length cells.now.items < 2 ^ 32 }
-    requires slot { k < length (slots_of (objects cells.now.items 0 heads.now.items) o) }
-    ensures { IsAt (links cells.now.items) result o Slots k }
+    requires slot { k < length (slots_of_object (objects cells.now.items 0 heads.now.items) o) }
+    ensures { IsCellAt (links cells.now.items) result o Slots k }
 {
     head_at(heads, o).slots + k
 }
@@ -63,7 +63,7 @@ pub fn slot_place(heads: &Reserved<Head>, cells: &Reserved<Cell>, o: u32, k: u32
 #[inline(always)]
 fn is_element(cells: &Reserved<Cell>, place: u32, o: u32, k: u32) -> bool
     requires { place < length cells.now.items }
-    ensures { result ≡ true → IsAt (links cells.now.items) place o Elements k }
+    ensures { result ≡ true → IsCellAt (links cells.now.items) place o Elements k }
 {
     let here = cell_at(cells, place);
     if here.owner != o {
@@ -91,9 +91,9 @@ fn near_place(elements: Chain, k: u32) -> u32
 /// The place of an element. (Most often an array's elements lie one after the other, and no list is walked.)
 #[inline(always)]
 pub fn element_place(heads: &Reserved<Head>, cells: &Reserved<Cell>, o: u32, k: u32) -> u32
-    requires heads { AreHeads (links cells.now.items) heads.now.items }
+    requires heads { AreObjectHeads (links cells.now.items) heads.now.items }
     requires element { k < length (elements_of (objects cells.now.items 0 heads.now.items) o) }
-    ensures { IsAt (links cells.now.items) result o Elements k }
+    ensures { IsCellAt (links cells.now.items) result o Elements k }
 {
     let elements = elements_kept(head_at(heads, o).what);
     let near = near_place(elements, k);
@@ -106,9 +106,9 @@ pub fn element_place(heads: &Reserved<Head>, cells: &Reserved<Cell>, o: u32, k: 
 
 /// The place of a property, by its place in the list.
 pub fn property_place(heads: &Reserved<Head>, cells: &Reserved<Cell>, o: u32, k: u32) -> u32
-    requires heads { AreHeads (links cells.now.items) heads.now.items }
+    requires heads { AreObjectHeads (links cells.now.items) heads.now.items }
     requires property { k < length (properties_of (objects cells.now.items 0 heads.now.items) o) }
-    ensures { IsAt (links cells.now.items) result o Properties k }
+    ensures { IsCellAt (links cells.now.items) result o Properties k }
 {
     place_of(cells, head_at(heads, o).properties.last, k)
 }
@@ -135,7 +135,7 @@ pub fn property_name(held: Held) -> Option<Span>
 
 /// The property with another value.
 pub fn revalued(held: Held, v: Value) -> Held
-    ensures value { property_in result ≡ valued v (property_in held) }
+    ensures value { property_in result ≡ with_value v (property_in held) }
     ensures lane { lane_of result ≡ Properties }
 {
     match held {
@@ -160,7 +160,8 @@ pub fn hold_value(cells: &mut Reserved<Cell>, place: u32, held: Held, v: Value)
 #[inline(always)]
 pub fn hold_element(cells: &mut Reserved<Cell>, place: u32, v: Value)
     requires { place < length cells.old.items }
-    ensures { cells.new ≡ record { items = held_at cells.old.items place (Element v); limit = cells.old.limit } }
+    ensures { cells.new
+        ≡ record { items = held_at cells.old.items place (Element v); limit = cells.old.limit } }
 {
     match v {
         Value::Num(n) => hold(cells, place, Held::Element(Value::Num(n))),
@@ -176,12 +177,13 @@ pub fn add_property(
     name: Span,
     v: Value,
 )
-    requires heads { AreHeads (links cells.old.items) heads.old.items }
+    requires heads { AreObjectHeads (links cells.old.items) heads.old.items }
     requires inside { o < length heads.old.items }
     requires room { HasRoom cells.old 1 }
-    ensures objects { objects cells.new.items 0 heads.new.items ≡ change (with_new_property name v) o (objects cells.old.items 0 heads.old.items) }
-    ensures heads { AreHeads (links cells.new.items) heads.new.items }
-    ensures added { IsAdded cells.old.items cells.new.items o (Property name v) }
+    ensures objects { objects cells.new.items 0 heads.new.items
+        ≡ change (with_new_property name v) o (objects cells.old.items 0 heads.old.items) }
+    ensures heads { AreObjectHeads (links cells.new.items) heads.new.items }
+    ensures added { IsCellAdded cells.old.items cells.new.items o (Property name v) }
     ensures sizes { IsGrown heads.old heads.new cells.old cells.new }
 {
     let head = head_at(heads, o);
@@ -191,12 +193,13 @@ pub fn add_property(
 
 /// Adds an element to an array, as its last.
 pub fn add_element(heads: &mut Reserved<Head>, cells: &mut Reserved<Cell>, o: u32, v: Value)
-    requires heads { AreHeads (links cells.old.items) heads.old.items }
+    requires heads { AreObjectHeads (links cells.old.items) heads.old.items }
     requires inside { o < length heads.old.items }
     requires array { is_array (object_at (objects cells.old.items 0 heads.old.items) o).what ≡ true }
     requires room { HasRoom cells.old 1 }
-    ensures objects { objects cells.new.items 0 heads.new.items ≡ change (with_new_element v) o (objects cells.old.items 0 heads.old.items) }
-    ensures heads { AreHeads (links cells.new.items) heads.new.items }
+    ensures objects { objects cells.new.items 0 heads.new.items
+        ≡ change (with_new_element v) o (objects cells.old.items 0 heads.old.items) }
+    ensures heads { AreObjectHeads (links cells.new.items) heads.new.items }
     ensures index { KeepsIndex cells.old cells.new }
     ensures sizes { IsGrown heads.old heads.new cells.old cells.new }
 {
@@ -214,9 +217,10 @@ pub fn held_at_position(
     o: u32,
     position: u32,
 ) -> Held
-    requires heads { AreHeads (links cells.now.items) heads.now.items }
+    requires heads { AreObjectHeads (links cells.now.items) heads.now.items }
     requires inside { o < length heads.now.items }
-    ensures { property_in result ≡ at_position (properties_of (objects cells.now.items 0 heads.now.items) o) position }
+    ensures { property_in result
+        ≡ at_position (properties_of (objects cells.now.items 0 heads.now.items) o) position }
 {
     if position == 0 {
         return Held::Deleted(1);
@@ -230,7 +234,7 @@ pub fn held_at_position(
 
 /// How many elements an object has.
 pub fn element_count(heads: &Reserved<Head>, cells: &Reserved<Cell>, o: u32) -> u32
-    requires heads { AreHeads (links cells.now.items) heads.now.items }
+    requires heads { AreObjectHeads (links cells.now.items) heads.now.items }
     requires inside { o < length heads.now.items }
     ensures { result ≡ length (elements_of (objects cells.now.items 0 heads.now.items) o) }
 {
@@ -246,14 +250,16 @@ pub fn add_object(
     delegate: Option<ObjId>,
     what: StoredWhat,
 ) -> u32
-    requires heads { AreHeads (links cells.now.items) heads.old.items }
+    requires heads { AreObjectHeads (links cells.now.items) heads.old.items }
     requires room { HasRoom heads.old 1 }
     requires what { elements_in what ≡ record { last = 0; count = 0 } }
     ensures number { result ≡ length heads.old.items }
-    ensures objects { objects cells.now.items 0 heads.new.items ≡ objects cells.now.items 0 heads.old.items ++ bare layout delegate (what_in what) ∷ [] }
-    ensures heads { AreHeads (links cells.now.items) heads.new.items }
+    ensures objects { objects cells.now.items 0 heads.new.items
+        ≡ objects cells.now.items 0 heads.old.items ++ bare_object layout delegate (what_in what) ∷ [] }
+    ensures heads { AreObjectHeads (links cells.now.items) heads.new.items }
     ensures next { IsFilling cells.now.items heads.new.items result (record { last = 0; count = 0 }) }
-    ensures sizes { (length heads.new.items ≡ length heads.old.items + 1) × (heads.new.limit ≡ heads.old.limit) }
+    ensures sizes { (length heads.new.items ≡ length heads.old.items + 1)
+        × (heads.new.limit ≡ heads.old.limit) }
 {
     let none = Chain { last: 0, count: 0 };
     let o = heads.len();
@@ -275,29 +281,33 @@ fn add_slot(
     o: u32,
     v: Value,
 ) -> Chain
-    requires heads { AreHeads (links cells.old.items) heads.now.items }
+    requires heads { AreObjectHeads (links cells.old.items) heads.now.items }
     requires inside { o < length heads.now.items }
     requires room { HasRoom cells.old 1 }
     requires next { IsFilling cells.old.items heads.now.items o chain }
-    ensures objects { objects cells.new.items 0 heads.now.items ≡ change (with_more_slots (v ∷ [])) o (objects cells.old.items 0 heads.now.items) }
-    ensures heads { AreHeads (links cells.new.items) heads.now.items }
+    ensures objects { objects cells.new.items 0 heads.now.items
+        ≡ change (with_more_slots (v ∷ [])) o (objects cells.old.items 0 heads.now.items) }
+    ensures heads { AreObjectHeads (links cells.new.items) heads.now.items }
     ensures next { IsFilling cells.new.items heads.now.items o result }
     ensures index { KeepsIndex cells.old cells.new }
-    ensures sizes { (length cells.new.items ≡ length cells.old.items + 1) × (cells.new.limit ≡ cells.old.limit) }
+    ensures sizes { (length cells.new.items ≡ length cells.old.items + 1)
+        × (cells.new.limit ≡ cells.old.limit) }
 {
     append(cells, chain, o, Held::Slot(v))
 }
 
 /// Gives a bare object its slots.
 pub fn fill_slots<S: Starts>(heads: &Reserved<Head>, cells: &mut Reserved<Cell>, o: u32, starts: &S)
-    requires heads { AreHeads (links cells.old.items) heads.now.items }
+    requires heads { AreObjectHeads (links cells.old.items) heads.now.items }
     requires inside { o < length heads.now.items }
     requires room { HasRoom cells.old (length (S.values starts.now)) }
     requires next { IsFilling cells.old.items heads.now.items o (record { last = 0; count = 0 }) }
-    ensures objects { objects cells.new.items 0 heads.now.items ≡ change (with_more_slots (S.values starts.now)) o (objects cells.old.items 0 heads.now.items) }
-    ensures heads { AreHeads (links cells.new.items) heads.now.items }
+    ensures objects { objects cells.new.items 0 heads.now.items
+        ≡ change (with_more_slots (S.values starts.now)) o (objects cells.old.items 0 heads.now.items) }
+    ensures heads { AreObjectHeads (links cells.new.items) heads.now.items }
     ensures index { KeepsIndex cells.old cells.new }
-    ensures sizes { (length cells.new.items ≡ length cells.old.items + length (S.values starts.now)) × (cells.new.limit ≡ cells.old.limit) }
+    ensures sizes { (length cells.new.items ≡ length cells.old.items + length (S.values starts.now))
+        × (cells.new.limit ≡ cells.old.limit) }
 {
     let mut chain = Chain { last: 0, count: 0 };
     let count = starts.count();
@@ -308,7 +318,7 @@ pub fn fill_slots<S: Starts>(heads: &Reserved<Head>, cells: &mut Reserved<Cell>,
 
 /// How many positions an object has.
 pub fn property_count(heads: &Reserved<Head>, cells: &Reserved<Cell>, o: u32) -> u32
-    requires heads { AreHeads (links cells.now.items) heads.now.items }
+    requires heads { AreObjectHeads (links cells.now.items) heads.now.items }
     requires inside { o < length heads.now.items }
     ensures { result ≡ length (properties_of (objects cells.now.items 0 heads.now.items) o) }
 {

@@ -1,5 +1,5 @@
 ghost use Rattle.std.specs.Prelude.{◌≡◌, ◌<◌, ◌+◌, ◌++◌, ℕ, length};
-ghost use Rattle.abc_heap_store.specs.Scopes.{nodes, top};
+ghost use Rattle.abc_heap_store.specs.Scopes.{nodes, top_of_scopes};
 ghost use Rattle.abc_heap_values.specs.Filling.{HasRoom};
 
 use crate::records::{ScopeEntry, ScopeId, ScopeNode};
@@ -12,8 +12,12 @@ pub fn capture(
     entries: &[ScopeEntry],
 ) -> Option<ScopeId>
     requires room { HasRoom scopes.old (length entries.now) }
-    ensures scopes { scopes.new ≡ record { items = scopes.old.items ++ nodes (length scopes.old.items) saved entries.now; limit = scopes.old.limit } }
-    ensures top { result ≡ top (length scopes.old.items) saved entries.now }
+    ensures scopes { scopes.new
+        ≡ record {
+          items = scopes.old.items ++ nodes (length scopes.old.items) saved entries.now;
+          limit = scopes.old.limit;
+        } }
+    ensures top { result ≡ top_of_scopes (length scopes.old.items) saved entries.now }
 {
     let mut parent = saved;
     for entry in entries {

@@ -7,8 +7,8 @@ ghost use Rattle.abc_heap_values.specs.declared.values.Value.{Value};
 ghost use Rattle.abc_heap_store.specs.Buckets.{IsIndexed, bucket as the_bucket};
 ghost use Rattle.abc_heap_store.specs.Heap.{properties_of};
 ghost use Rattle.abc_heap_store.specs.Texts.{text_in, IsTextIn};
-ghost use Rattle.abc_heap_store.specs.Properties.{place_named, is_named};
-ghost use Rattle.abc_heap_store.specs.View.{objects, AreHeads};
+ghost use Rattle.abc_heap_store.specs.Properties.{place_named, is_property_named};
+ghost use Rattle.abc_heap_store.specs.View.{objects, AreObjectHeads};
 ghost use Rattle.abc_heap_store.specs.Spots.{IsSpot};
 
 use crate::buckets::Buckets;
@@ -65,9 +65,12 @@ fn has_name(
     name: Span,
     text: &[u8],
 ) -> bool
-    requires held { (n : Span) (v : Value) → property_in cell.held ≡ Some (n, v) → IsTextIn fixed.now made.now strings.now n }
+    requires held { (n : Span) (v : Value) → property_in cell.held ≡ Some (n, v)
+        → IsTextIn fixed.now made.now strings.now n }
     requires text { text.now ≡ text_in fixed.now made.now strings.now name }
-    ensures { result ≡ nat_eq cell.owner o && is_named (text_in fixed.now made.now strings.now) text.now (Some (property_in cell.held)) }
+    ensures { result
+        ≡ nat_eq cell.owner o && is_property_named (text_in fixed.now made.now strings.now) text.now
+        (Some (property_in cell.held)) }
 {
     if cell.owner != o {
         return false;
@@ -91,11 +94,13 @@ pub fn place_of_name(
     name: Span,
     text: &[u8],
 ) -> Option<Spot>
-    requires heads { AreHeads (links cells.now.items) heads.now.items }
+    requires heads { AreObjectHeads (links cells.now.items) heads.now.items }
     requires index { IsIndexed fixed.now made.now strings.now cells.now buckets.now }
     requires inside { o < length heads.now.items }
     requires text { text.now ≡ text_in fixed.now made.now strings.now name }
-    ensures { MatchOption result (place_named (text_in fixed.now made.now strings.now) text.now (properties_of (objects cells.now.items 0 heads.now.items) o) ≡ None) (λ s. IsSpot (text_in fixed.now made.now strings.now) text.now cells.now.items heads.now.items o s) }
+    ensures { MatchOption result (place_named (text_in fixed.now made.now strings.now) text.now
+        (properties_of (objects cells.now.items 0 heads.now.items) o) ≡ None)
+        (λ s. IsSpot (text_in fixed.now made.now strings.now) text.now cells.now.items heads.now.items o s) }
 {
     let count = property_count(heads, cells, o);
     if count == 0 {
@@ -130,9 +135,10 @@ fn is_that(own: Option<Span>, name: Span) -> bool
 /// Where an object has the property that came last, if that has just this name.
 #[inline(always)]
 fn last_of_name(heads: &Reserved<Head>, cells: &Reserved<Cell>, o: u32, name: Span) -> Option<Spot>
-    requires heads { AreHeads (links cells.now.items) heads.now.items }
+    requires heads { AreObjectHeads (links cells.now.items) heads.now.items }
     requires inside { o < length heads.now.items }
-    ensures { MatchOption result (Unit {0}) (λ s. (f : Span → List ℕ) → IsSpot f (f name) cells.now.items heads.now.items o s) }
+    ensures { MatchOption result (Unit {0})
+        (λ s. (f : Span → List ℕ) → IsSpot f (f name) cells.now.items heads.now.items o s) }
 {
     let chain = head_at(heads, o).properties;
     let count = chain.count;
@@ -161,11 +167,15 @@ fn find_in_bucket(
     o: u32,
     name: Span,
 ) -> Option<Spot>
-    requires heads { AreHeads (links cells.now.items) heads.now.items }
+    requires heads { AreObjectHeads (links cells.now.items) heads.now.items }
     requires index { IsIndexed fixed.now made.now.items strings.now cells.now buckets.now }
     requires inside { o < length heads.now.items }
     requires name { IsTextIn fixed.now made.now.items strings.now name }
-    ensures { MatchOption result (place_named (text_in fixed.now made.now.items strings.now) (text_in fixed.now made.now.items strings.now name) (properties_of (objects cells.now.items 0 heads.now.items) o) ≡ None) (λ s. IsSpot (text_in fixed.now made.now.items strings.now) (text_in fixed.now made.now.items strings.now name) cells.now.items heads.now.items o s) }
+    ensures { MatchOption result (place_named (text_in fixed.now made.now.items strings.now)
+        (text_in fixed.now made.now.items strings.now name)
+        (properties_of (objects cells.now.items 0 heads.now.items) o) ≡ None)
+        (λ s. IsSpot (text_in fixed.now made.now.items strings.now)
+        (text_in fixed.now made.now.items strings.now name) cells.now.items heads.now.items o s) }
 {
     let fixed = fixed.as_slice();
     let made = made.as_slice();
@@ -185,11 +195,15 @@ pub fn find(
     o: u32,
     name: Span,
 ) -> Option<Spot>
-    requires heads { AreHeads (links cells.now.items) heads.now.items }
+    requires heads { AreObjectHeads (links cells.now.items) heads.now.items }
     requires index { IsIndexed fixed.now made.now.items strings.now cells.now buckets.now }
     requires inside { o < length heads.now.items }
     requires name { IsTextIn fixed.now made.now.items strings.now name }
-    ensures { MatchOption result (place_named (text_in fixed.now made.now.items strings.now) (text_in fixed.now made.now.items strings.now name) (properties_of (objects cells.now.items 0 heads.now.items) o) ≡ None) (λ s. IsSpot (text_in fixed.now made.now.items strings.now) (text_in fixed.now made.now.items strings.now name) cells.now.items heads.now.items o s) }
+    ensures { MatchOption result (place_named (text_in fixed.now made.now.items strings.now)
+        (text_in fixed.now made.now.items strings.now name)
+        (properties_of (objects cells.now.items 0 heads.now.items) o) ≡ None)
+        (λ s. IsSpot (text_in fixed.now made.now.items strings.now)
+        (text_in fixed.now made.now.items strings.now name) cells.now.items heads.now.items o s) }
 {
     match last_of_name(heads, cells, o, name) {
         Some(spot) => Some(spot),
@@ -208,7 +222,8 @@ pub fn bucket_of_name(
 ) -> usize
     requires some { 0 < length buckets.now.lasts.items }
     requires name { IsTextIn fixed.now made.now.items strings.now name }
-    ensures bucket { result ≡ the_bucket (length buckets.now.lasts.items) o (text_in fixed.now made.now.items strings.now name) }
+    ensures bucket { result
+        ≡ the_bucket (length buckets.now.lasts.items) o (text_in fixed.now made.now.items strings.now name) }
     ensures inside { result < length buckets.now.lasts.items }
 {
     let text = bytes_in(fixed.as_slice(), made.as_slice(), strings, name);

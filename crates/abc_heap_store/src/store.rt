@@ -2,11 +2,11 @@ ghost use Rattle.std.specs.Prelude.{◌≡◌, ◌<◌, ◌≤◌, ◌+◌, ◌-
 ghost use Rattle.std.specs.Fmt.{decimal, signed_decimal};
 ghost use Rattle.abc_heap_values.specs.declared.values.Value.TheVariants.{Undefined};
 ghost use Rattle.abc_heap_store.specs.What.{is_array};
-ghost use Rattle.abc_heap_store.specs.Heap.{object_at, slots_of, properties_of, elements_of, cells_used, ledger, IsFull, IsFullOf, Fits, HasRoomFor, PassesLimit, PassesFrames};
+ghost use Rattle.abc_heap_store.specs.Heap.{object_at, slots_of_object, properties_of, elements_of, cells_used, ledger, IsFull, IsFullOf, FitsCells, HasRoomFor, PassesLimit, PassesFrames};
 ghost use Rattle.abc_heap_store.specs.Texts.{IsText, text_of, IsTextMade};
-ghost use Rattle.abc_heap_store.specs.Properties.{place_in, property_in_heap, with_put, with_delete, cells_to_put, the_name, at_position, place_after, walked_value, walked_next, element_at, next_element, next_filled, the_value};
+ghost use Rattle.abc_heap_store.specs.Properties.{place_of_property, property_in_heap, with_put, with_delete, cells_to_put, the_name, at_position, place_after, walked_value, walked_next, element_at, next_element, next_filled, the_value};
 ghost use Rattle.abc_heap_store.specs.Changes.{with_object, with_slot, with_element, with_new_element, with_more_elements, with_new_property, with_made, with_scopes, IsMade, IsFunctionMade, IsClassMade, IsArrayMade, with_array};
-ghost use Rattle.abc_heap_store.specs.Scopes.{top};
+ghost use Rattle.abc_heap_store.specs.Scopes.{top_of_scopes};
 ghost use Rattle.abc_heap_store.specs.declared.records.Limit.TheVariants.{Cells, Text};
 
 use crate::buckets::Buckets;
@@ -65,7 +65,18 @@ impl Model for Store {
 
     ghost Value = { Heap };
 
-    ghost view = { λ a. record { objects = objects a.cells.items 0 a.heads.items; scopes = a.scopes.items; fixed = a.fixed; made = a.made.items; formulas = a.formulas; strings = a.strings; classes = a.classes.items; frames = a.frames; stack = a.stack; limits = a.limits } };
+    ghost view = { λ a. record {
+      objects = objects a.cells.items 0 a.heads.items;
+      scopes = a.scopes.items;
+      fixed = a.fixed;
+      made = a.made.items;
+      formulas = a.formulas;
+      strings = a.strings;
+      classes = a.classes.items;
+      frames = a.frames;
+      stack = a.stack;
+      limits = a.limits;
+    } };
 
     ghost invariant = { λ a. IsStored a.heads a.cells a.scopes a.fixed a.made a.strings a.buckets a.limits };
 }
@@ -81,7 +92,19 @@ impl Store {
         pool: &Table<Bytes>,
         classes: u32,
     ) -> Result<Store, NoMemory>
-        ensures { IfOk result (λ a. a ≡ record { objects = []; scopes = []; fixed = fixed; made = []; formulas = formulas; strings = pool.now; classes = replicate classes None; frames = 0; stack = 0; limits = limits }) }
+        ensures { IfOk result (λ a. a
+            ≡ record {
+              objects = [];
+              scopes = [];
+              fixed = fixed;
+              made = [];
+              formulas = formulas;
+              strings = pool.now;
+              classes = replicate classes None;
+              frames = 0;
+              stack = 0;
+              limits = limits;
+            }) }
     {
         Ok(Store {
             heads: Reserved::new(alloc, limits.objects)?,
@@ -148,8 +171,8 @@ impl Store {
 
     /// The value of a slot.
     pub fn slot(&self, o: ObjId, k: u32) -> Value
-        requires { k < length (slots_of self.now.objects o.0) }
-        ensures { slice_get (slots_of self.now.objects o.0) k ≡ Some result }
+        requires { k < length (slots_of_object self.now.objects o.0) }
+        ensures { slice_get (slots_of_object self.now.objects o.0) k ≡ Some result }
     {
         let place = slot_place(&self.heads, &self.cells, o.0, k);
         value_of(cell_at(&self.cells, place).held)
@@ -157,7 +180,7 @@ impl Store {
 
     /// Writes a slot.
     pub fn set_slot(&mut self, o: ObjId, k: u32, v: Value)
-        requires { k < length (slots_of self.old.objects o.0) }
+        requires { k < length (slots_of_object self.old.objects o.0) }
         ensures { self.new ≡ with_object (with_slot k v) o.0 self.old }
     {
         let place = slot_place(&self.heads, &self.cells, o.0, k);
@@ -192,8 +215,11 @@ impl Store {
     pub fn delete_property(&mut self, o: ObjId, name: Span) -> bool
         requires inside { o.0 < length self.old.objects }
         requires name { IsText self.old.strings self.old name }
-        ensures was { result ≡ is_some (place_in self.old.strings self.old o.0 name) }
-        ensures heap { self.new ≡ with_object (with_delete (text_of self.old.strings self.old) (text_of self.old.strings self.old name)) o.0 self.old }
+        ensures was { result ≡ is_some (place_of_property self.old.strings self.old o.0 name) }
+        ensures heap { self.new
+            ≡ with_object
+            (with_delete (text_of self.old.strings self.old) (text_of self.old.strings self.old name)) o.0
+            self.old }
     {
         match find(
             &self.fixed,
@@ -229,7 +255,13 @@ impl Store {
     pub fn set_property(&mut self, o: ObjId, name: Span, v: Value) -> Result<(), Full>
         requires inside { o.0 < length self.old.objects }
         requires name { IsText self.old.strings self.old name }
-        ensures { MatchResult result (λ _. Fits self.old self.new (cells_to_put (place_in self.old.strings self.old o.0 name)) (with_object (with_put (text_of self.old.strings self.old) (text_of self.old.strings self.old name) name v) o.0 self.old)) (λ e. IsFull self.old self.new (cells_used self.old) (cells_to_put (place_in self.old.strings self.old o.0 name)) self.old.limits.cells Cells e) }
+        ensures { MatchResult result (λ _. FitsCells self.old self.new
+            (cells_to_put (place_of_property self.old.strings self.old o.0 name))
+            (with_object (with_put (text_of self.old.strings self.old)
+            (text_of self.old.strings self.old name) name v) o.0 self.old))
+            (λ e. IsFull self.old self.new (cells_used self.old)
+            (cells_to_put (place_of_property self.old.strings self.old o.0 name)) self.old.limits.cells
+            Cells e) }
     {
         match find(
             &self.fixed,
@@ -310,7 +342,9 @@ impl Store {
     pub fn push_element(&mut self, o: ObjId, v: Value) -> Result<(), Full>
         requires inside { o.0 < length self.old.objects }
         requires array { is_array (object_at self.old.objects o.0).what ≡ true }
-        ensures { MatchResult result (λ _. Fits self.old self.new 1 (with_object (with_new_element v) o.0 self.old)) (λ e. IsFull self.old self.new (cells_used self.old) 1 self.old.limits.cells Cells e) }
+        ensures { MatchResult result
+            (λ _. FitsCells self.old self.new 1 (with_object (with_new_element v) o.0 self.old))
+            (λ e. IsFull self.old self.new (cells_used self.old) 1 self.old.limits.cells Cells e) }
     {
         if self.cells.len() + self.scopes.len() == self.limits.cells {
             return Err(Full(Limit::Cells));
@@ -399,7 +433,8 @@ impl Store {
 
     /// Tests the room for some objects and cells at once, objects first.
     fn room(&self, objects: u32, cells: u64) -> Result<(), Full>
-        ensures { MatchResult result (λ _. HasRoomFor self.now objects cells) (λ e. PassesLimit self.now objects cells e.0) }
+        ensures { MatchResult result (λ _. HasRoomFor self.now objects cells)
+            (λ e. PassesLimit self.now objects cells e.0) }
     {
         if self.limits.objects - self.heads.len() < objects {
             return Err(Full(Limit::Objects));
@@ -412,7 +447,8 @@ impl Store {
 
     /// Tests the room for a function with so many slots, which keeps some scopes.
     fn room_for_function(&self, slots: u32, scopes: &[ScopeEntry]) -> Result<(), Full>
-        ensures { MatchResult result (λ _. HasRoomFor self.now 1 (slots + length scopes.now)) (λ e. PassesLimit self.now 1 (slots + length scopes.now) e.0) }
+        ensures { MatchResult result (λ _. HasRoomFor self.now 1 (slots + length scopes.now))
+            (λ e. PassesLimit self.now 1 (slots + length scopes.now) e.0) }
     {
         // For the prover: the limit has 32 bits, so a sum that saturates passes it.
         let _limit = self.limits.cells;
@@ -426,7 +462,9 @@ impl Store {
         class_slots: u32,
         scopes: &[ScopeEntry],
     ) -> Result<(), Full>
-        ensures { MatchResult result (λ _. HasRoomFor self.now 2 (prototype_slots + class_slots + length scopes.now + 1)) (λ e. PassesLimit self.now 2 (prototype_slots + class_slots + length scopes.now + 1) e.0) }
+        ensures { MatchResult result
+            (λ _. HasRoomFor self.now 2 (prototype_slots + class_slots + length scopes.now + 1))
+            (λ e. PassesLimit self.now 2 (prototype_slots + class_slots + length scopes.now + 1) e.0) }
     {
         // For the prover: the limit has 32 bits, so a sum that saturates passes it.
         let _limit = self.limits.cells;
@@ -454,7 +492,7 @@ impl Store {
     /// Adds nodes for scopes above the saved one, where there is room, and gives the top.
     pub fn keep_scopes(&mut self, saved: Option<ScopeId>, scopes: &[ScopeEntry]) -> Option<ScopeId>
         requires room { HasRoomFor self.old 0 (length scopes.now) }
-        ensures top { result ≡ top (length self.old.scopes) saved scopes.now }
+        ensures top { result ≡ top_of_scopes (length self.old.scopes) saved scopes.now }
         ensures heap { self.new ≡ with_scopes saved scopes.now self.old }
     {
         capture(&mut self.scopes, saved, scopes)
@@ -541,7 +579,9 @@ impl Store {
         what: What,
         starts: &S,
     ) -> Result<ObjId, Full>
-        ensures { MatchResult result (λ o. IsMade self.old self.new o (S.values starts.now) layout delegate what) (λ e. IsFullOf self.old self.new 1 (length (S.values starts.now)) e) }
+        ensures { MatchResult result
+            (λ o. IsMade self.old self.new o (S.values starts.now) layout delegate what)
+            (λ e. IsFullOf self.old self.new 1 (length (S.values starts.now)) e) }
     {
         let count = starts.count();
         self.room(1, u64::from(count))?;
@@ -560,7 +600,9 @@ impl Store {
         scopes: &[ScopeEntry],
         starts: &S,
     ) -> Result<ObjId, Full>
-        ensures { MatchResult result (λ o. IsFunctionMade self.old self.new o (S.values starts.now) layout method home delegate saved scopes.now) (λ e. IsFullOf self.old self.new 1 (length (S.values starts.now) + length scopes.now) e) }
+        ensures { MatchResult result (λ o. IsFunctionMade self.old self.new o (S.values starts.now) layout
+            method home delegate saved scopes.now)
+            (λ e. IsFullOf self.old self.new 1 (length (S.values starts.now) + length scopes.now) e) }
     {
         self.room_for_function(starts.count(), scopes)?;
         let scope = self.keep_scopes(saved, scopes);
@@ -585,7 +627,10 @@ impl Store {
     ) -> Result<ObjId, Full>
         requires class { parts.class < length self.old.classes }
         requires prototype { 0 < length (C.values class_starts.now) }
-        ensures { MatchResult result (λ o. IsClassMade self.old self.new o (P.values prototype_starts.now) (C.values class_starts.now) parts saved scopes.now) (λ e. IsFullOf self.old self.new 2 (length (P.values prototype_starts.now) + length (C.values class_starts.now) + length scopes.now + 1) e) }
+        ensures { MatchResult result (λ o. IsClassMade self.old self.new o (P.values prototype_starts.now)
+            (C.values class_starts.now) parts saved scopes.now) (λ e. IsFullOf self.old self.new 2
+            (length (P.values prototype_starts.now) + length (C.values class_starts.now) + length
+            scopes.now + 1) e) }
     {
         let _limit = self.limits.objects;
         self.room_for_class(prototype_starts.count(), class_starts.count(), scopes)?;
@@ -621,7 +666,8 @@ impl Store {
         delegate: Option<ObjId>,
         elements: &[Value],
     ) -> Result<ObjId, Full>
-        ensures { MatchResult result (λ o. IsArrayMade self.old self.new o elements.now layout delegate) (λ e. IsFullOf self.old self.new 1 (length elements.now) e) }
+        ensures { MatchResult result (λ o. IsArrayMade self.old self.new o elements.now layout delegate)
+            (λ e. IsFullOf self.old self.new 1 (length elements.now) e) }
     {
         self.room(1, elements.len() as u64)?;
         let o = self.make_array(layout, delegate);
@@ -636,7 +682,9 @@ impl Store {
         delegate: Option<ObjId>,
         count: u32,
     ) -> Result<ObjId, Full>
-        ensures { MatchResult result (λ o. IsArrayMade self.old self.new o (replicate count Undefined) layout delegate) (λ e. IsFullOf self.old self.new 1 count e) }
+        ensures { MatchResult result
+            (λ o. IsArrayMade self.old self.new o (replicate count Undefined) layout delegate)
+            (λ e. IsFullOf self.old self.new 1 count e) }
     {
         self.room(1, u64::from(count))?;
         let o = self.make_array(layout, delegate);
@@ -671,7 +719,10 @@ impl Store {
     pub fn text_join(&mut self, pool: &Table<Bytes>, a: Span, b: Span) -> Result<Span, Full>
         requires a { IsText pool.now self.old a }
         requires b { IsText pool.now self.old b }
-        ensures { MatchResult result (λ s. IsTextMade self.old self.new s (text_of pool.now self.old a ++ text_of pool.now self.old b)) (λ e. IsFull self.old self.new (length self.old.made) (a.len + b.len) self.old.limits.text Text e) }
+        ensures { MatchResult result
+            (λ s. IsTextMade self.old self.new s (text_of pool.now self.old a ++ text_of pool.now self.old b))
+            (λ e. IsFull self.old self.new (length self.old.made) (a.len + b.len) self.old.limits.text Text
+            e) }
     {
         let start = self.made.len();
         let left = self.limits.text - start;
@@ -693,7 +744,9 @@ impl Store {
     #[inline(always)]
     fn text_of_digit(&mut self, digit: u8) -> Result<Span, Full>
         requires { digit < 10 }
-        ensures { MatchResult result (λ s. IsTextMade self.old self.new s (decimal digit)) (λ e. IsFull self.old self.new (length self.old.made) (length (decimal digit)) self.old.limits.text Text e) }
+        ensures { MatchResult result (λ s. IsTextMade self.old self.new s (decimal digit))
+            (λ e. IsFull self.old self.new (length self.old.made) (length (decimal digit))
+            self.old.limits.text Text e) }
     {
         let start = self.made.len();
         if start == self.limits.text {
@@ -710,7 +763,9 @@ impl Store {
     /// Makes the text of a number of any length.
     #[inline(never)]
     fn text_of_digits(&mut self, n: i64) -> Result<Span, Full>
-        ensures { MatchResult result (λ s. IsTextMade self.old self.new s (signed_decimal n)) (λ e. IsFull self.old self.new (length self.old.made) (length (signed_decimal n)) self.old.limits.text Text e) }
+        ensures { MatchResult result (λ s. IsTextMade self.old self.new s (signed_decimal n))
+            (λ e. IsFull self.old self.new (length self.old.made) (length (signed_decimal n))
+            self.old.limits.text Text e) }
     {
         let mut buffer = Buffer::new();
         let bytes = buffer.format(n).as_bytes();
@@ -729,7 +784,9 @@ impl Store {
     /// Makes the text of a number: most often of one digit.
     #[inline(always)]
     pub fn text_of_number(&mut self, n: i64) -> Result<Span, Full>
-        ensures { MatchResult result (λ s. IsTextMade self.old self.new s (signed_decimal n)) (λ e. IsFull self.old self.new (length self.old.made) (length (signed_decimal n)) self.old.limits.text Text e) }
+        ensures { MatchResult result (λ s. IsTextMade self.old self.new s (signed_decimal n))
+            (λ e. IsFull self.old self.new (length self.old.made) (length (signed_decimal n))
+            self.old.limits.text Text e) }
     {
         if 0 <= n && n < 10 {
             self.text_of_digit(n as u8)
@@ -756,7 +813,11 @@ impl Store {
 
     /// Takes the room of a frame, which keeps some values.
     pub fn take_frame(&mut self, values: u32) -> Result<(), Full>
-        ensures { MatchResult result (λ _. (self.old.frames + 1 ≤ self.old.limits.frames) × (self.old.stack + values ≤ self.old.limits.stack) × (self.new ≡ record self.old { frames = self.old.frames + 1; stack = self.old.stack + values })) (λ e. (self.new ≡ self.old) × PassesFrames self.old values e.0) }
+        ensures { MatchResult result (λ _. (self.old.frames + 1 ≤ self.old.limits.frames)
+            × (self.old.stack + values ≤ self.old.limits.stack)
+            × (self.new
+            ≡ record self.old { frames = self.old.frames + 1; stack = self.old.stack + values }))
+            (λ e. (self.new ≡ self.old) × PassesFrames self.old values e.0) }
     {
         if self.frames >= self.limits.frames {
             return Err(Full(Limit::Frames));
@@ -773,7 +834,8 @@ impl Store {
     pub fn give_frame(&mut self, values: u32)
         requires frame { 0 < self.old.frames }
         requires values { values ≤ self.old.stack }
-        ensures { self.new ≡ record self.old { frames = self.old.frames - 1; stack = self.old.stack - values } }
+        ensures { self.new
+            ≡ record self.old { frames = self.old.frames - 1; stack = self.old.stack - values } }
     {
         self.frames -= 1;
         self.stack -= values;

@@ -13,13 +13,13 @@ pub struct Strings {
 
 impl Model for Strings {
     ghost use Rattle.std.specs.Prelude.{List, ℕ, length};
-    ghost use Rattle.abc_heap_store.specs.Strings.{pieces, AreEnds};
+    ghost use Rattle.abc_heap_store.specs.Strings.{texts_from, AreTextEnds};
 
     ghost Value = { List (List ℕ) };
 
-    ghost view = { λ s. pieces 0 s.ends.items s.bytes };
+    ghost view = { λ s. texts_from 0 s.ends.items s.bytes };
 
-    ghost invariant = { λ s. AreEnds 0 s.ends.items (length s.bytes) };
+    ghost invariant = { λ s. AreTextEnds 0 s.ends.items (length s.bytes) };
 }
 
 /// The end of some bytes. Where it has more than 32 bits, memory is said to run out.

@@ -1,5 +1,5 @@
 ghost use Rattle.std.specs.Prelude.{◌≡◌, ◌<◌, ◌+◌, ◌++◌, List, ℕ, length, Some, slice_get};
-ghost use Rattle.abc_heap_store.specs.Texts.{text_in, IsTextIn, part_of, pool_text};
+ghost use Rattle.abc_heap_store.specs.Texts.{text_in, IsTextIn, part_of_text, pool_text};
 ghost use Rattle.abc_heap_values.specs.Filling.{HasRoom};
 
 use crate::strings::Strings;
@@ -43,7 +43,7 @@ impl Pool for Strings {
 
 /// A part, in which texts lie.
 pub fn part_bytes<'a, P: Pool>(fixed: &'a [u8], made: &'a [u8], pool: &'a P, part: u32) -> &'a [u8]
-    ensures { result.now ≡ part_of fixed.now made.now (P.strings pool.now) part }
+    ensures { result.now ≡ part_of_text fixed.now made.now (P.strings pool.now) part }
 {
     if part == 0 {
         return fixed;
@@ -66,8 +66,8 @@ pub fn bytes_in<'a, P: Pool>(fixed: &'a [u8], made: &'a [u8], pool: &'a P, s: Sp
 
 /// A byte of a part.
 fn byte_at(fixed: &Bytes, made: &Reserved<u8>, pool: &Table<Bytes>, part: u32, k: usize) -> u8
-    requires { k < length (part_of fixed.now made.now.items pool.now part) }
-    ensures { slice_get (part_of fixed.now made.now.items pool.now part) k ≡ Some result }
+    requires { k < length (part_of_text fixed.now made.now.items pool.now part) }
+    ensures { slice_get (part_of_text fixed.now made.now.items pool.now part) k ≡ Some result }
 {
     part_bytes(fixed.as_slice(), made.as_slice(), pool, part)[k]
 }
@@ -76,7 +76,11 @@ fn byte_at(fixed: &Bytes, made: &Reserved<u8>, pool: &Table<Bytes>, part: u32, k
 pub fn copy_text(fixed: &Bytes, made: &mut Reserved<u8>, pool: &Table<Bytes>, s: Span)
     requires text { IsTextIn fixed.now made.old.items pool.now s }
     requires room { HasRoom made.old s.len }
-    ensures { made.new ≡ record { items = made.old.items ++ text_in fixed.now made.old.items pool.now s; limit = made.old.limit } }
+    ensures { made.new
+        ≡ record {
+          items = made.old.items ++ text_in fixed.now made.old.items pool.now s;
+          limit = made.old.limit;
+        } }
 {
     for k in 0..s.len {
         let byte = byte_at(fixed, made, pool, s.part, s.start as usize + k as usize);
@@ -99,7 +103,13 @@ pub fn join(fixed: &Bytes, made: &mut Reserved<u8>, pool: &Table<Bytes>, a: Span
     requires a { IsTextIn fixed.now made.old.items pool.now a }
     requires b { IsTextIn fixed.now made.old.items pool.now b }
     requires room { HasRoom made.old (a.len + b.len) }
-    ensures { made.new ≡ record { items = made.old.items ++ (text_in fixed.now made.old.items pool.now a ++ text_in fixed.now made.old.items pool.now b); limit = made.old.limit } }
+    ensures { made.new
+        ≡ record {
+          items = made.old.items
+              ++ (text_in fixed.now made.old.items pool.now a
+              ++ text_in fixed.now made.old.items pool.now b);
+          limit = made.old.limit;
+        } }
 {
     copy_text(fixed, made, pool, a);
     copy_text(fixed, made, pool, b);

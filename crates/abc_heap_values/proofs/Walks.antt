@@ -6,7 +6,7 @@ use Rattle.std.proofs.lemmas.List.{length-map, length-take}
 use Rattle.abc_heap_values.specs.declared.cell.Cell.{Cell}
 use Rattle.abc_heap_values.specs.declared.cell.Lane.{Lane}
 use Rattle.abc_heap_values.specs.Lanes.{lane_of}
-use Rattle.abc_heap_values.specs.Links.{Link, link_of, links, IsAt, IsBelow, IsLinked, AreLinked, IsReached, IsUnder}
+use Rattle.abc_heap_values.specs.Links.{Link, link_of, links, IsCellAt, IsCellBelow, IsLinked, AreLinked, IsCellReached, IsUnder}
 use Rattle.abc_heap_values.proofs.Parts.{slice_get_take, slice_get_some}
 
 pub link_at : (cells : List Cell) (i : ℕ) (c : Cell) → slice_get cells i ≡ Some c → slice_get (links cells) i ≡ Some (link_of c)
@@ -25,7 +25,7 @@ jump_in cells i c k l e b =
     let w : i < length cells = slice_get_within cells i c e in
     (omega (arith, length-take i (links cells)), omega (arith, length-take i (links cells)), w)
 
-pub nearer_jump : (cells : List Cell) (i : ℕ) (c d : Cell) (k : ℕ) → AreLinked (links cells) → slice_get cells i ≡ Some c → slice_get cells c.jump ≡ Some d → k < c.position → k ≤ d.position → IsReached (links cells) i c.jump k
+pub nearer_jump : (cells : List Cell) (i : ℕ) (c d : Cell) (k : ℕ) → AreLinked (links cells) → slice_get cells i ≡ Some c → slice_get cells c.jump ≡ Some d → k < c.position → k ≤ d.position → IsCellReached (links cells) i c.jump k
 nearer_jump cells i c d k l e f below above = record {
   inside = slice_get_within (links cells) c.jump (link_of d) (link_at cells c.jump d f);
   is = λ x y ex ey.
@@ -39,7 +39,7 @@ nearer_jump cells i c d k l e f below above = record {
       (s.0 ∙ ap (λ (z : Link). z.owner) q, s.1 ∙ ap (λ (z : Link). z.lane) q, subst (λ (z : Link). k ≤ z.position) r above);
 }
 
-pub nearer_before : (cells : List Cell) (i : ℕ) (c : Cell) (k : ℕ) → AreLinked (links cells) → slice_get cells i ≡ Some c → k < c.position → IsReached (links cells) i c.before k
+pub nearer_before : (cells : List Cell) (i : ℕ) (c : Cell) (k : ℕ) → AreLinked (links cells) → slice_get cells i ≡ Some c → k < c.position → IsCellReached (links cells) i c.before k
 nearer_before cells i c k l e below =
     let j = jump_in cells i c k l e below in
     record {
@@ -52,10 +52,10 @@ nearer_before cells i c k l e below =
           (s.0 ∙ ap (λ (z : Link). z.owner) q, s.1 ∙ ap (λ (z : Link). z.lane) q, omega (arith, s.2));
     }
 
-pub reached_self : (cells : List Cell) (i k : ℕ) → IsReached (links cells) i i k → (c : Cell) → slice_get cells i ≡ Some c → k ≤ c.position
+pub reached_self : (cells : List Cell) (i k : ℕ) → IsCellReached (links cells) i i k → (c : Cell) → slice_get cells i ≡ Some c → k ≤ c.position
 reached_self cells i k r c e = (r.is (link_of c) (link_of c) (link_at cells i c e) (link_at cells i c e)).2
 
-pub reached_on : (cells : List Cell) (i j m k : ℕ) → IsReached (links cells) i j k → IsReached (links cells) j m k → IsReached (links cells) i m k
+pub reached_on : (cells : List Cell) (i j m k : ℕ) → IsCellReached (links cells) i j k → IsCellReached (links cells) j m k → IsCellReached (links cells) i m k
 reached_on cells i j m k r s = record {
   inside = s.inside;
   is = λ x z ex ez.
@@ -65,7 +65,7 @@ reached_on cells i j m k r s = record {
       (b.0 ∙ a.0, b.1 ∙ a.1, b.2);
 }
 
-pub reached_at : (cells : List Cell) (i j k : ℕ) (c d : Cell) → IsReached (links cells) i j k → slice_get cells i ≡ Some c → slice_get cells j ≡ Some d → d.position ≡ k → IsAt (links cells) j c.owner (lane_of c.held) k
+pub reached_at : (cells : List Cell) (i j k : ℕ) (c d : Cell) → IsCellReached (links cells) i j k → slice_get cells i ≡ Some c → slice_get cells j ≡ Some d → d.position ≡ k → IsCellAt (links cells) j c.owner (lane_of c.held) k
 reached_at cells i j k c d r e f p = record {
   inside = r.inside;
   is = λ y ey.
@@ -75,7 +75,7 @@ reached_at cells i j k c d r e f p = record {
       (s.0, s.1, sym (ap (λ (z : Link). z.position) q) ∙ p);
 }
 
-pub reached_above : (cells : List Cell) (i j k : ℕ) (c d : Cell) → i < length (links cells) → IsReached (links cells) i j k → slice_get cells j ≡ Some d → (d.position ≡ k → ⊥) → slice_get cells j ≡ Some c → k < c.position
+pub reached_above : (cells : List Cell) (i j k : ℕ) (c d : Cell) → i < length (links cells) → IsCellReached (links cells) i j k → slice_get cells j ≡ Some d → (d.position ≡ k → ⊥) → slice_get cells j ≡ Some c → k < c.position
 reached_above cells i j k c d b r e n f =
     let w = slice_get_some (links cells) i b in
     let s = r.is w.0 (link_of c) w.1 (link_at cells j c f) in
@@ -116,7 +116,7 @@ under_on xs i j k r s = record {
 pub under_le : (cells : List Cell) (i j : ℕ) (c d : Cell) → IsUnder (links cells) i j → slice_get cells i ≡ Some c → slice_get cells j ≡ Some d → d.position ≤ c.position
 under_le cells i j c d u e f = (u.is (link_of c) (link_of d) (link_at cells i c e) (link_at cells j d f)).2
 
-pub below_from : (xs : List Link) (i j : ℕ) (o : ℕ) (l : Lane) (k n : ℕ) → IsAt xs i o l k → IsUnder xs i j → k < n → IsBelow xs j o l n
+pub below_from : (xs : List Link) (i j : ℕ) (o : ℕ) (l : Lane) (k n : ℕ) → IsCellAt xs i o l k → IsUnder xs i j → k < n → IsCellBelow xs j o l n
 below_from xs i j o l k n a u b = record {
   inside = u.inside;
   is = λ y ey.

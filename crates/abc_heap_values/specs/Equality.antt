@@ -27,9 +27,9 @@ abbrev pub same_text : (Span → List ℕ) → Span → Value → Bool
 same_text text s (values.Text t) = bytes_eq (text s) (text t)
 same_text text s other = false
 
-abbrev pub same_space : (ℕ → ℕ → Bool) → ℕ → Value → Bool
-same_space same a (values.Space b) = same a b
-same_space same a other = false
+abbrev pub is_equal_space : (ℕ → ℕ → Bool) → ℕ → Value → Bool
+is_equal_space same a (values.Space b) = same a b
+is_equal_space same a other = false
 
 -- by identity
 abbrev pub same_object : ObjId → Value → Bool
@@ -43,7 +43,7 @@ same_values text same values.Null y = is_null y
 same_values text same (values.Num n) y = same_number n y
 same_values text same (values.Bool b) y = same_truth b y
 same_values text same (values.Text s) y = same_text text s y
-same_values text same (values.Space a) y = same_space same a y
+same_values text same (values.Space a) y = is_equal_space same a y
 same_values text same (values.Obj o) y = same_object o y
 
 -- ---- loosely
@@ -83,5 +83,5 @@ equal_values text same values.Null y = Ok (is_nothing y)
 equal_values text same (values.Num n) y = number_equals n y
 equal_values text same (values.Bool b) y = number_equals (number_of_bool b) y
 equal_values text same (values.Text s) y = text_equals text s y
-equal_values text same (values.Space a) y = Ok (same_space same a y)
+equal_values text same (values.Space a) y = Ok (is_equal_space same a y)
 equal_values text same (values.Obj o) y = object_equals o y

@@ -28,18 +28,18 @@ same_lane Elements Slots = false
 same_lane Elements Properties = false
 
 -- the cell belongs to this list of this object
-abbrev pub is_of : ℕ → Lane → Cell → Bool
-is_of o l c = nat_eq c.owner o && same_lane (lane_of c.held) l
+abbrev pub belongs_to_lane : ℕ → Lane → Cell → Bool
+belongs_to_lane o l c = nat_eq c.owner o && same_lane (lane_of c.held) l
 
-abbrev pub owned : ℕ → Lane → List Cell → List Cell
-owned o l cells = filter (is_of o l) cells
+abbrev pub cells_of_lane : ℕ → Lane → List Cell → List Cell
+cells_of_lane o l cells = filter (belongs_to_lane o l) cells
 
 -- the value that a cell holds; undefined for a deleted property
-abbrev pub value_in : Held → Value
-value_in (Slot v) = v
-value_in (Property n v) = v
-value_in (Deleted n) = Undefined
-value_in (Element v) = v
+abbrev pub value_of_held : Held → Value
+value_of_held (Slot v) = v
+value_of_held (Property n v) = v
+value_of_held (Deleted n) = Undefined
+value_of_held (Element v) = v
 
 -- the property that a cell holds, its name and its value; none for a slot, an element or a deleted property
 abbrev pub property_in : Held → Option (Span × Value)
@@ -50,10 +50,10 @@ property_in (Element v) = None
 
 -- the three lists of object o
 abbrev pub slots : ℕ → List Cell → List Value
-slots o cells = map (λ (c : Cell). value_in c.held) (owned o Slots cells)
+slots o cells = map (λ (c : Cell). value_of_held c.held) (cells_of_lane o Slots cells)
 
 abbrev pub properties : ℕ → List Cell → List (Option (Span × Value))
-properties o cells = map (λ (c : Cell). property_in c.held) (owned o Properties cells)
+properties o cells = map (λ (c : Cell). property_in c.held) (cells_of_lane o Properties cells)
 
 abbrev pub elements : ℕ → List Cell → List Value
-elements o cells = map (λ (c : Cell). value_in c.held) (owned o Elements cells)
+elements o cells = map (λ (c : Cell). value_of_held c.held) (cells_of_lane o Elements cells)

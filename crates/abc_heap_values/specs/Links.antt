@@ -20,28 +20,28 @@ link_of c = record { owner = c.owner; lane = lane_of c.held; position = c.positi
 abbrev pub links : List Cell → List Link
 links cells = map link_of cells
 
-abbrev pub is_in : ℕ → Lane → Link → Bool
-is_in o l x = nat_eq x.owner o && same_lane x.lane l
+abbrev pub is_in_lane : ℕ → Lane → Link → Bool
+is_in_lane o l x = nat_eq x.owner o && same_lane x.lane l
 
 -- how many cells this list of this object has
 abbrev pub count : ℕ → Lane → List Link → ℕ
-count o l xs = length (filter (is_in o l) xs)
+count o l xs = length (filter (is_in_lane o l) xs)
 
 -- place i has the cell at position k of this list of this object
-pub record IsAt (xs : List Link) (i : ℕ) (o : ℕ) (l : Lane) (k : ℕ) : Type 0 where
+pub record IsCellAt (xs : List Link) (i : ℕ) (o : ℕ) (l : Lane) (k : ℕ) : Type 0 where
   pub inside : i < length xs
   pub is : (x : Link) → slice_get xs i ≡ Some x → (x.owner ≡ o) × (x.lane ≡ l) × (x.position ≡ k)
 
 -- place i has a cell of this list of this object below position k
-pub record IsBelow (xs : List Link) (i : ℕ) (o : ℕ) (l : Lane) (k : ℕ) : Type 0 where
+pub record IsCellBelow (xs : List Link) (i : ℕ) (o : ℕ) (l : Lane) (k : ℕ) : Type 0 where
   pub inside : i < length xs
   pub is : (x : Link) → slice_get xs i ≡ Some x → (x.owner ≡ o) × (x.lane ≡ l) × (x.position < k)
 
 -- a cell's links, into the cells before it
 pub record IsLinked (earlier : List Link) (x : Link) : Type 0 where
   pub counted : x.position ≡ count x.owner x.lane earlier
-  pub before : 0 < x.position → IsAt earlier x.before x.owner x.lane (x.position - 1)
-  pub jump : 0 < x.position → IsBelow earlier x.jump x.owner x.lane x.position
+  pub before : 0 < x.position → IsCellAt earlier x.before x.owner x.lane (x.position - 1)
+  pub jump : 0 < x.position → IsCellBelow earlier x.jump x.owner x.lane x.position
 
 -- each cell is linked into the cells before it
 abbrev pub AreLinked : List Link → Type 0
@@ -50,10 +50,10 @@ AreLinked xs = (i : ℕ) (x : Link) → slice_get xs i ≡ Some x → IsLinked (
 -- a chain knows how many cells its list has, and the place of the last
 pub record IsChain (xs : List Link) (o : ℕ) (l : Lane) (c : Chain) : Type 0 where
   pub counted : c.count ≡ count o l xs
-  pub last : 0 < c.count → IsAt xs c.last o l (c.count - 1)
+  pub last : 0 < c.count → IsCellAt xs c.last o l (c.count - 1)
 
 -- place j has a cell of the same list as place i, at position k or above
-pub record IsReached (xs : List Link) (i : ℕ) (j : ℕ) (k : ℕ) : Type 0 where
+pub record IsCellReached (xs : List Link) (i : ℕ) (j : ℕ) (k : ℕ) : Type 0 where
   pub inside : j < length xs
   pub is : (x y : Link) → slice_get xs i ≡ Some x → slice_get xs j ≡ Some y → (y.owner ≡ x.owner) × (y.lane ≡ x.lane) × (k ≤ y.position)
 
@@ -63,8 +63,8 @@ pub record IsUnder (xs : List Link) (i : ℕ) (j : ℕ) : Type 0 where
   pub is : (x y : Link) → slice_get xs i ≡ Some x → slice_get xs j ≡ Some y → (y.owner ≡ x.owner) × (y.lane ≡ x.lane) × (y.position ≤ x.position)
 
 -- one more cell, of this object, which holds this
-abbrev pub IsAdded : List Cell → List Cell → ℕ → Held → Type 0
-IsAdded old new o h = (c : Cell) × (new ≡ old ++ c ∷ []) × (c.owner ≡ o) × (c.held ≡ h)
+abbrev pub IsCellAdded : List Cell → List Cell → ℕ → Held → Type 0
+IsCellAdded old new o h = (c : Cell) × (new ≡ old ++ c ∷ []) × (c.owner ≡ o) × (c.held ≡ h)
 
 -- the cells, with another thing held at one place
 abbrev pub held_at : List Cell → ℕ → Held → List Cell

@@ -8,8 +8,8 @@ use Rattle.abc_base.specs.declared.names.Fault.TheVariants.{NotANumber, TextToNu
 use Rattle.abc_heap_values.specs.declared.values.Value.{Value}
 use Rattle.abc_heap_values.specs.declared.values.Value.TheVariants as values
 use Rattle.abc_heap_values.specs.Kinds.{is_undefined}
-use Rattle.abc_heap_values.specs.Modular.{signed, unsigned}
-use Rattle.abc_heap_values.specs.Operations.{calculated, calculated_single}
+use Rattle.abc_heap_values.specs.Modular.{modulo_signed, modulo_unsigned}
+use Rattle.abc_heap_values.specs.Operations.{calculation, calculated_single}
 use Rattle.abc_heap_values.specs.declared.operations.Operation.{Operation}
 use Rattle.abc_heap_values.specs.declared.operations.Operation.TheVariants as ops
 use Rattle.abc_heap_values.specs.declared.operations.Single.{Single}
@@ -26,9 +26,9 @@ IsInRange (values.Space n) = Unit {0}
 IsInRange (values.Obj o) = Unit {0}
 
 -- a step, and what follows it where it is no fault
-abbrev pub and_then : {A B : Type 0} → Result A Fault → (A → Result B Fault) → Result B Fault
-and_then (Ok x) f = f x
-and_then (Err e) f = Err e
+abbrev pub then_number : {A B : Type 0} → Result A Fault → (A → Result B Fault) → Result B Fault
+then_number (Ok x) f = f x
+then_number (Err e) f = Err e
 
 -- ---- convert_d, convert_i, convert_u
 
@@ -53,11 +53,11 @@ whole_of v = if is_undefined v then Ok (pos 0) else number_of v
 
 -- convert_i: the number of a value modulo 2 ^ 32, from -2 ^ 31 to 2 ^ 31 - 1
 abbrev pub int_of : Value → Result ℤ Fault
-int_of v = and_then (whole_of v) (λ n. Ok (signed n))
+int_of v = then_number (whole_of v) (λ n. Ok (modulo_signed n))
 
 -- convert_u: the number of a value modulo 2 ^ 32, from 0 to 2 ^ 32 - 1
 abbrev pub uint_of : Value → Result ℤ Fault
-uint_of v = and_then (whole_of v) (λ n. Ok (pos (unsigned n)))
+uint_of v = then_number (whole_of v) (λ n. Ok (pos (modulo_unsigned n)))
 
 -- ---- convert_b
 
@@ -86,7 +86,7 @@ operand_of op v = if is_modular op then whole_of v else number_of v
 
 -- the left is made a number before the right
 abbrev pub calculated_of : Operation → Value → Value → Result ℤ Fault
-calculated_of op x y = and_then (operand_of op x) (λ a. and_then (operand_of op y) (λ b. calculated op a b))
+calculated_of op x y = then_number (operand_of op x) (λ a. then_number (operand_of op y) (λ b. calculation op a b))
 
 abbrev pub is_modular_single : Single → Bool
 is_modular_single singles.Negate = false
@@ -99,4 +99,4 @@ operand_of_single op v = if is_modular_single op then whole_of v else number_of 
 
 -- what an operation on one value gives: the value is made a number first
 abbrev pub calculated_single_of : Single → Value → Result ℤ Fault
-calculated_single_of op v = and_then (operand_of_single op v) (λ n. calculated_single op n)
+calculated_single_of op v = then_number (operand_of_single op v) (λ n. calculated_single op n)

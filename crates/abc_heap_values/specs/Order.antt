@@ -12,16 +12,16 @@ use Rattle.abc_heap_values.specs.declared.values.Span.{Span}
 use Rattle.abc_heap_values.specs.declared.values.Value.{Value}
 use Rattle.abc_heap_values.specs.declared.values.Value.TheVariants as values
 use Rattle.abc_heap_values.specs.Kinds.{is_undefined}
-use Rattle.abc_heap_values.specs.Numbers.{and_then, number_of}
+use Rattle.abc_heap_values.specs.Numbers.{then_number, number_of}
 use Rattle.abc_heap_values.specs.declared.order.Order.{Order}
 use Rattle.abc_heap_values.specs.declared.order.Order.TheVariants.{Less, LessOrEqual, Greater, GreaterOrEqual}
 
 -- by whether the left is below the right, and the right below the left
-abbrev pub holds : Order → Bool → Bool → Bool
-holds Less below above = below
-holds LessOrEqual below above = not above
-holds Greater below above = above
-holds GreaterOrEqual below above = not below
+abbrev pub holds_by : Order → Bool → Bool → Bool
+holds_by Less below above = below
+holds_by LessOrEqual below above = not above
+holds_by Greater below above = above
+holds_by GreaterOrEqual below above = not below
 
 -- ---- texts: the first byte that differs decides, and a front is below what it begins
 
@@ -33,23 +33,23 @@ abbrev pub is_ascii : List ℕ → Bool
 is_ascii bytes = list_all (λ b. nat_lt b 0x80) bytes
 
 abbrev pub ordered_texts : Order → List ℕ → List ℕ → Result Bool Fault
-ordered_texts order a b = if is_ascii a && is_ascii b then Ok (holds order (text_below a b) (text_below b a)) else Err TextOrder
+ordered_texts order a b = if is_ascii a && is_ascii b then Ok (holds_by order (text_below a b) (text_below b a)) else Err TextOrder
 
 -- ---- numbers: undefined is none, stands in no order, and is no fault
 
-abbrev pub number_or_none : Value → Result (Option ℤ) Fault
-number_or_none v = if is_undefined v then Ok None else and_then (number_of v) (λ n. Ok (Some n))
+abbrev pub number_if_any : Value → Result (Option ℤ) Fault
+number_if_any v = if is_undefined v then Ok None else then_number (number_of v) (λ n. Ok (Some n))
 
 abbrev pub numbers_hold : Order → Option ℤ → Option ℤ → Bool
 numbers_hold order None b = false
 numbers_hold order (Some a) None = false
-numbers_hold order (Some a) (Some b) = holds order (int_lt a b) (int_lt b a)
+numbers_hold order (Some a) (Some b) = holds_by order (int_lt a b) (int_lt b a)
 
 -- the left is made a number before the right
 abbrev pub ordered_numbers : Order → Value → Value → Result Bool Fault
-ordered_numbers order x y = and_then (number_or_none x) (λ a. and_then (number_or_none y) (λ b. Ok (numbers_hold order a b)))
+ordered_numbers order x y = then_number (number_if_any x) (λ a. then_number (number_if_any y) (λ b. Ok (numbers_hold order a b)))
 
 -- whether two values are in the order, the left first: two texts as texts, all else as numbers; `text` gives the bytes of a span
-abbrev pub ordered : (Span → List ℕ) → Order → Value → Value → Result Bool Fault
-ordered text order (values.Text s) (values.Text t) = ordered_texts order (text s) (text t)
-ordered text order x y = ordered_numbers order x y
+abbrev pub order_of : (Span → List ℕ) → Order → Value → Value → Result Bool Fault
+order_of text order (values.Text s) (values.Text t) = ordered_texts order (text s) (text t)
+order_of text order x y = ordered_numbers order x y

@@ -34,5 +34,5 @@ abbrev pub remainder : ℤ → ℤ → Result ℤ Fault
 remainder x y = if int_eq y (pos 0) then Err NotANumber else Ok (int_rem x y)
 
 -- the number with the other sign, or a fault where that is out of range
-abbrev pub negated : ℤ → Result ℤ Fault
-negated x = in_range (neg_ℤ x)
+abbrev pub negation : ℤ → Result ℤ Fault
+negation x = in_range (neg_ℤ x)

@@ -1,5 +1,5 @@
 ghost use Rattle.std.specs.Prelude.{◌≡◌, ◌<◌, ◌≤◌, ◌+◌, ◌++◌, ◌∷◌, [], ℕ, length, Some, slice_get};
-ghost use Rattle.abc_heap_values.specs.Links.{link_of, links, AreLinked, IsChain, IsLinked, IsAt, IsReached, IsBelow, IsUnder, IsAdded, held_at, Link};
+ghost use Rattle.abc_heap_values.specs.Links.{link_of, links, AreLinked, IsChain, IsLinked, IsCellAt, IsCellReached, IsCellBelow, IsUnder, IsCellAdded, held_at, Link};
 ghost use Rattle.abc_heap_values.specs.Lanes.{lane_of};
 ghost use Rattle.abc_heap_values.specs.declared.cell.Cell.{Cell};
 ghost use Rattle.abc_heap_values.specs.Filling.{HasRoom};
@@ -27,7 +27,7 @@ fn nearer(cells: &Reserved<Cell>, place: u32, position: u32) -> u32
     requires linked { AreLinked (links cells.now.items) }
     requires inside { place < length cells.now.items }
     requires above { (c : Cell) → slice_get cells.now.items place ≡ Some c → position < c.position }
-    ensures reached { IsReached (links cells.now.items) place result position }
+    ensures reached { IsCellReached (links cells.now.items) place result position }
     ensures falls { result < place }
 {
     let here = cell_at(cells, place);
@@ -42,8 +42,9 @@ fn nearer(cells: &Reserved<Cell>, place: u32, position: u32) -> u32
 /// The place of the cell at a position, in the list that the cell at `from` belongs to.
 pub fn place_of(cells: &Reserved<Cell>, from: u32, position: u32) -> u32
     requires linked { AreLinked (links cells.now.items) }
-    requires above { IsReached (links cells.now.items) from from position }
-    ensures { (c : Cell) → slice_get cells.now.items from ≡ Some c → IsAt (links cells.now.items) result c.owner (lane_of c.held) position }
+    requires above { IsCellReached (links cells.now.items) from from position }
+    ensures { (c : Cell) → slice_get cells.now.items from ≡ Some c
+        → IsCellAt (links cells.now.items) result c.owner (lane_of c.held) position }
 {
     let mut place = from;
     while cell_at(cells, place).position != position {
@@ -110,7 +111,7 @@ pub fn append(cells: &mut Reserved<Cell>, chain: Chain, owner: u32, held: Held) 
     requires linked { AreLinked (links cells.old.items) }
     requires chain { IsChain (links cells.old.items) owner (lane_of held) chain }
     ensures limit { cells.new.limit ≡ cells.old.limit }
-    ensures added { IsAdded cells.old.items cells.new.items owner held }
+    ensures added { IsCellAdded cells.old.items cells.new.items owner held }
     ensures linked { AreLinked (links cells.new.items) }
     ensures chain { IsChain (links cells.new.items) owner (lane_of held) result }
     ensures place { (result.last ≡ length cells.old.items) × (result.count ≡ chain.count + 1) }

@@ -1,5 +1,5 @@
 ghost use Rattle.std.specs.Prelude.{◌≡◌};
-ghost use Rattle.abc_heap_values.specs.Equality.{equal_values, number_equals, object_equals, same_number, same_object, same_space, same_text, same_truth, same_values, text_equals};
+ghost use Rattle.abc_heap_values.specs.Equality.{equal_values, number_equals, object_equals, same_number, same_object, is_equal_space, same_text, same_truth, same_values, text_equals};
 ghost use Rattle.abc_heap_values.specs.Reads.{IsReadable};
 
 use crate::kinds::{is_nothing, is_null, is_undefined};
@@ -38,7 +38,7 @@ fn is_text<T: Texts>(texts: &T, s: Span, v: Value) -> bool
 }
 
 fn is_space<T: Texts>(texts: &T, a: u32, v: Value) -> bool
-    ensures { result ≡ same_space (T.same texts.now) a v }
+    ensures { result ≡ is_equal_space (T.same texts.now) a v }
 {
     match v {
         Value::Space(b) => texts.is_same_space(a, b),

@@ -1,6 +1,6 @@
 ghost use Rattle.std.specs.Prelude.{◌≡◌, IfOk};
 ghost use Rattle.abc_base.specs.Ranges.{IsNumber};
-ghost use Rattle.abc_heap_values.specs.Operations.{calculated, calculated_single};
+ghost use Rattle.abc_heap_values.specs.Operations.{calculation, calculated_single};
 
 use crate::plain::{add, divide, modulo, multiply, negate, subtract};
 use crate::whole::{
@@ -46,7 +46,7 @@ pub enum Single {
 pub fn calculate(op: Operation, x: i64, y: i64) -> Result<i64, Fault>
     requires left { IsNumber x }
     requires right { IsNumber y }
-    ensures value { result ≡ calculated op x y }
+    ensures value { result ≡ calculation op x y }
     ensures number { IfOk result IsNumber }
 {
     match op {

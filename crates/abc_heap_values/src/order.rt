@@ -1,7 +1,7 @@
 ghost use Rattle.std.specs.Prelude.{◌≡◌, nat_lt};
 ghost use Rattle.std.specs.List.{list_all};
 ghost use Rattle.abc_heap_values.specs.Numbers.{IsInRange};
-ghost use Rattle.abc_heap_values.specs.Order.{holds as holds_by, number_or_none as number_if, numbers_hold as numbers_hold_by, ordered, ordered_numbers, ordered_texts, text_below};
+ghost use Rattle.abc_heap_values.specs.Order.{holds_by, number_if_any as number_if, numbers_hold as numbers_hold_by, order_of, ordered_numbers, ordered_texts, text_below};
 ghost use Rattle.abc_heap_values.specs.Reads.{IsReadable};
 
 use crate::kinds::is_undefined;
@@ -96,7 +96,7 @@ pub fn are_ordered<T: Texts>(texts: &T, order: Order, x: Value, y: Value) -> Res
     requires right_text { IsReadable (T.has texts.now) y }
     requires left { IsInRange x }
     requires right { IsInRange y }
-    ensures { result ≡ ordered (T.text texts.now) order x y }
+    ensures { result ≡ order_of (T.text texts.now) order x y }
 {
     match (x, y) {
         (Value::Num(a), Value::Num(b)) => Ok(holds(order, a < b, b < a)),

@@ -1,6 +1,6 @@
 ghost use Rattle.std.specs.Prelude.{◌≡◌, ◌≢◌, pos, IfOk};
 ghost use Rattle.abc_base.specs.Ranges.{IsNumber};
-ghost use Rattle.abc_heap_values.specs.Plain.{difference, negated, product, quotient, remainder, sum, whole_quotient};
+ghost use Rattle.abc_heap_values.specs.Plain.{difference, negation, product, quotient, remainder, sum, whole_quotient};
 
 use crate::range::within;
 use abc_base::Fault;
@@ -76,7 +76,7 @@ pub fn modulo(x: i64, y: i64) -> Result<i64, Fault>
 
 pub fn negate(x: i64) -> Result<i64, Fault>
     requires { IsNumber x }
-    ensures value { result ≡ negated x }
+    ensures value { result ≡ negation x }
     ensures number { IfOk result IsNumber }
 {
     within(-x)

@@ -20,7 +20,8 @@ impl<T> Model for Reserved<T> {
 
     ghost view = { λ r. record { items = r.items.items; limit = r.limit } };
 
-    ghost invariant = { λ r. (length r.items.items ≤ r.limit) × (r.limit ≤ vec_capacity r.items) × (r.limit < 2 ^ 32) };
+    ghost invariant = { λ r. (length r.items.items ≤ r.limit) × (r.limit ≤ vec_capacity r.items)
+        × (r.limit < 2 ^ 32) };
 }
 
 impl<T: Drop> Reserved<T> {

@@ -1,30 +1,30 @@
 ghost use Rattle.std.specs.Prelude.{◌≡◌, ◌+ℤ◌, ◌-ℤ◌, ◌*ℤ◌, neg_ℤ};
 ghost use Rattle.abc_base.specs.Ranges.{IsNumber};
-ghost use Rattle.abc_heap_values.specs.Modular.{signed};
+ghost use Rattle.abc_heap_values.specs.Modular.{modulo_signed};
 ghost use Rattle.abc_heap_values.specs.Whole.{bits_in_both, bits_in_either, bits_in_one, bits_turned, shifted_left, shifted_right, shifted_right_unsigned, whole_difference, whole_negated, whole_product, whole_sum};
 
 use crate::modular::{from_signed, from_unsigned, to_signed, to_unsigned};
 
 fn wrapped_sum(a: i32, b: i32) -> i32
-    ensures { result ≡ signed (a +ℤ b) }
+    ensures { result ≡ modulo_signed (a +ℤ b) }
 {
     a.wrapping_add(b)
 }
 
 fn wrapped_difference(a: i32, b: i32) -> i32
-    ensures { result ≡ signed (a -ℤ b) }
+    ensures { result ≡ modulo_signed (a -ℤ b) }
 {
     a.wrapping_sub(b)
 }
 
 fn wrapped_product(a: i32, b: i32) -> i32
-    ensures { result ≡ signed (a *ℤ b) }
+    ensures { result ≡ modulo_signed (a *ℤ b) }
 {
     a.wrapping_mul(b)
 }
 
 fn wrapped_opposite(a: i32) -> i32
-    ensures { result ≡ signed (neg_ℤ a) }
+    ensures { result ≡ modulo_signed (neg_ℤ a) }
 {
     a.wrapping_neg()
 }

@@ -3,7 +3,7 @@ use Rattle.std.proofs.Common.{◌≡◌, ℕ, pos, zero, suc, ◌<◌, List, [],
 use Rattle.std.proofs.lemmas.List.{get_or-map, get_or_default, length-map}
 use Rattle.abc_base.specs.Hosts.{taken_names, formula_at}
 use Rattle.abc_base.specs.declared.formula.Formula.{Formula}
-use Rattle.abc_host.specs.Tables.{IsTaken}
+use Rattle.abc_host.specs.Tables.{IsNameTaken}
 
 -- a value's name is among the names behind another one
 pub contains_from_any : {X : Type 0} (name_of : X → List ℕ) (xs : List X) (first name : List ℕ) → Any (λ x. name_of x ≡ name) xs → Contains (first ∷ map name_of xs) name
@@ -28,19 +28,19 @@ any_in_map f P (x ∷ xs) (k, y, lt, at, is) =
     (k, get_or (x ∷ xs) k x, below, get_or_default (x ∷ xs) k (get_or (x ∷ xs) k x) x below, subst P (sym at ∙ get_or-map f (x ∷ xs) k x y below) is)
 
 -- a name that stands in the host object, and one that doesn't
-pub taken_by_host : (formulas : List Formula) (given name : List ℕ) (r : Bool) → given ≡ name → r ≡ true → (IsTrue r ↔ Contains taken_names given) → IsTrue r ↔ IsTaken formulas name
+pub taken_by_host : (formulas : List Formula) (given name : List ℕ) (r : Bool) → given ≡ name → r ≡ true → (IsTrue r ↔ Contains taken_names given) → IsTrue r ↔ IsNameTaken formulas name
 taken_by_host formulas given name r same taken is = (λ t. inl (subst (λ (n : List ℕ). Contains taken_names n) same (is.0 taken)), λ _. taken)
 
-one_of : {X : Type 0} (f : X → Formula) (xs : List X) (name : List ℕ) (r : Bool) → ¬ Contains taken_names name → (IsTrue r ↔ Any (λ x. (f x).name ≡ name) xs) → IsTrue r ↔ IsTaken (map f xs) name
+one_of : {X : Type 0} (f : X → Formula) (xs : List X) (name : List ℕ) (r : Bool) → ¬ Contains taken_names name → (IsTrue r ↔ Any (λ x. (f x).name ≡ name) xs) → IsTrue r ↔ IsNameTaken (map f xs) name
 one_of f xs name r free is = (
   λ t. inr (any_of_map f (λ g. g.name ≡ name) xs (is.0 t)),
   elim [ inl host ↦ absurd (free host) | inr one ↦ is.1 (any_in_map f (λ g. g.name ≡ name) xs one) ],
 )
 
-pub taken_by_one : {X : Type 0} (f : X → Formula) (xs ys : List X) (given name : List ℕ) (a b : Bool) → xs ≡ ys → given ≡ name → a ≡ false → (IsTrue a ↔ Contains taken_names given) → (IsTrue b ↔ Any (λ x. (f x).name ≡ given) xs) → IsTrue b ↔ IsTaken (map f ys) name
+pub taken_by_one : {X : Type 0} (f : X → Formula) (xs ys : List X) (given name : List ℕ) (a b : Bool) → xs ≡ ys → given ≡ name → a ≡ false → (IsTrue a ↔ Contains taken_names given) → (IsTrue b ↔ Any (λ x. (f x).name ≡ given) xs) → IsTrue b ↔ IsNameTaken (map f ys) name
 taken_by_one f xs ys given name a b same_list same_name not_taken host one =
     let free : ¬ Contains taken_names given = λ is. let holds : IsTrue a = host.1 is in cc in
-    subst (λ (zs : List _). IsTrue b ↔ IsTaken (map f zs) name) same_list (subst (λ (n : List ℕ). IsTrue b ↔ IsTaken (map f xs) n) same_name (one_of f xs given b free one))
+    subst (λ (zs : List _). IsTrue b ↔ IsNameTaken (map f zs) name) same_list (subst (λ (n : List ℕ). IsTrue b ↔ IsNameTaken (map f xs) n) same_name (one_of f xs given b free one))
 
 -- the formula of an entry that stands at a place
 pub formula_there : {X : Type 0} (f : X → Formula) (xs : List X) (x : X) (i : ℕ) → i < length xs → x ≡ get_or xs i x → f x ≡ formula_at (map f xs) i

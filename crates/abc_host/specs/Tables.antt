@@ -24,12 +24,12 @@ pub record IsWithinBounds (formula : Formula) : Type 0 where
   pub small : All IsSmall formula.factors
 
 -- the name stands in the host object already, or is that of one of the formulas
-abbrev pub IsTaken : List Formula → List ℕ → Type 0
-IsTaken formulas name = Contains taken_names name ⊎ Any (λ f. f.name ≡ name) formulas
+abbrev pub IsNameTaken : List Formula → List ℕ → Type 0
+IsNameTaken formulas name = Contains taken_names name ⊎ Any (λ f. f.name ≡ name) formulas
 
 -- the formula may stand behind the others
 abbrev pub IsAddable : List Formula → Formula → Type 0
-IsAddable formulas formula = IsWithinBounds formula × (length formulas < 64) × ¬ IsTaken formulas formula.name
+IsAddable formulas formula = IsWithinBounds formula × (length formulas < 64) × ¬ IsNameTaken formulas formula.name
 
 -- What `add` answers for an entry of this formula, behind entries of those formulas. A refusal hands the entry back; the
 -- first that applies is the answer.
@@ -37,5 +37,5 @@ abbrev pub AddAnswer : {X : _} {F : _} {m : _} → List Formula → Entry X F m 
 AddAnswer formulas entry (Ok _) = IsAddable formulas entry.formula
 AddAnswer formulas entry (Err (errors.BadFormula back)) = (back ≡ entry) × ¬ IsWithinBounds entry.formula
 AddAnswer formulas entry (Err (errors.Full back)) = (back ≡ entry) × IsWithinBounds entry.formula × (length formulas ≡ 64)
-AddAnswer formulas entry (Err (errors.NameTaken back)) = (back ≡ entry) × IsWithinBounds entry.formula × (length formulas < 64) × IsTaken formulas entry.formula.name
+AddAnswer formulas entry (Err (errors.NameTaken back)) = (back ≡ entry) × IsWithinBounds entry.formula × (length formulas < 64) × IsNameTaken formulas entry.formula.name
 AddAnswer formulas entry (Err (errors.NoMemory back)) = (back ≡ entry) × IsAddable formulas entry.formula

@@ -25,7 +25,8 @@ impl Entry {
     /// takes no memory.
     pub fn new(formula: Formula, run: Box<dyn Fn(Plain) -> Option<i64>>) -> Entry
         requires callable { (args : Plain) → args.count ≡ length formula.factors → pre run args }
-        requires computes { (args : Plain) (answer : Option ℤ) → args.count ≡ length formula.factors → post run args answer → answer ≡ answer_of formula args }
+        requires computes { (args : Plain) (answer : Option ℤ) → args.count ≡ length formula.factors
+            → post run args answer → answer ≡ answer_of formula args }
         ensures { formula_of result ≡ formula }
     {
         Entry { formula, run }

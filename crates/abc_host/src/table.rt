@@ -28,7 +28,7 @@ pub struct HostTable {
 }
 
 impl HostTable {
-    ghost use Rattle.abc_host.specs.Tables.{AddAnswer, IsAddable, IsTaken, formula_of, formulas_of};
+    ghost use Rattle.abc_host.specs.Tables.{AddAnswer, IsAddable, IsNameTaken, formula_of, formulas_of};
 
     /// A host without entries. It takes no memory.
     pub fn new(alloc: Global) -> HostTable
@@ -79,7 +79,7 @@ impl HostTable {
 
     /// Whether a name is taken.
     fn is_taken(&self, name: &Bytes) -> bool
-        ensures { IsTrue result ↔ IsTaken (formulas_of self.now) name.now }
+        ensures { IsTrue result ↔ IsNameTaken (formulas_of self.now) name.now }
     {
         let bytes = name.as_slice();
         let entries = self.entries.as_slice();

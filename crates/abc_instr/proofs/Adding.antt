@@ -11,7 +11,7 @@ use Rattle.abc_instr.specs.declared.holes.Hole.{Hole}
 use Rattle.abc_instr.specs.declared.raw.RawInstr.{RawInstr as Raw}
 use Rattle.abc_instr.specs.declared.raw.RawInstr.TheVariants as raws
 use Rattle.abc_instr.specs.declared.scan.Scan.{Scan}
-use Rattle.abc_instr.specs.Scanning.{Adds, case_holes, holes_in, jump_in, plain_bytes, raw_bytes}
+use Rattle.abc_instr.specs.Scanning.{AddsInstruction, case_holes, holes_in, jump_in, plain_bytes, raw_bytes}
 
 -- ---- an instruction without targets
 
@@ -27,7 +27,7 @@ no_holes (raws.Switch z zs) here next moved e = absurd cc
 
 -- ---- where it stands
 
-pub adds_at : (i : Raw) (n n2 here here2 : ℕ) (old new : Scan) → n ≡ n2 → here ≡ here2 → Adds i n here old new → Adds i n2 here2 old new
+pub adds_at : (i : Raw) (n n2 here here2 : ℕ) (old new : Scan) → n ≡ n2 → here ≡ here2 → AddsInstruction i n here old new → AddsInstruction i n2 here2 old new
 adds_at i n n2 here here2 old new e f adds = record {
   code = adds.code;
   holes = adds.holes ∙ (λ t. old.holes.items ++ holes_in i (f t) (f t + e t) (length old.code.items));
@@ -48,7 +48,7 @@ kept (raws.Switch z zs) j e = record { same = cc; none = refl }
 
 -- what was told is what was at the front, of which nothing was put yet
 pub told_adds : (i j : Raw) (n n2 here here2 : ℕ) (old mid new : Scan) → Some j ≡ jump_in i → n ≡ n2 → here ≡ here2 → mid.code.items ≡ old.code.items ++ plain_bytes i → mid.holes.items ≡ old.holes.items → mid.marks ≡ old.marks
-    → Adds j n here mid new → Adds i n2 here2 old new
+    → AddsInstruction j n here mid new → AddsInstruction i n2 here2 old new
 told_adds i j n n2 here here2 old mid new told e f code holes marks adds =
     let is = kept i j told in
     let same : mid.code.items ≡ old.code.items = code ∙ ap (λ (l : List ℕ). old.code.items ++ l) is.none ∙ append-nil old.code.items in
@@ -61,7 +61,7 @@ told_adds i j n n2 here here2 old mid new told e f code holes marks adds =
 pub branch_put : (op : ℕ) (z : ℤ) (here next place moved : ℕ) (old mid new : Scan) → here < next → place ≡ here + 1 → moved ≡ length old.code.items + 4
     → mid.code.items ≡ old.code.items ++ op ∷ [] → mid.holes.items ≡ old.holes.items → mid.marks ≡ old.marks → new.code.items ≡ mid.code.items ++ s24_bytes z
     → new.holes.items ≡ mid.holes.items ++ record { place = place; at = length mid.code.items; base = next; moved = moved; offset = z } ∷ [] → new.marks ≡ mid.marks
-    → Adds (raws.Branch op z) (next - here) here old new
+    → AddsInstruction (raws.Branch op z) (next - here) here old new
 branch_put op z here next place moved old mid new lt p m code holes marks code2 holes2 marks2 =
     let at : length mid.code.items ≡ length old.code.items + 1 = omega (arith, ap length code, length-append old.code.items (op ∷ [])) in
     let end : next ≡ here + (next - here) = omega arith in
@@ -77,7 +77,7 @@ branch_put op z here next place moved old mid new lt p m code holes marks code2 
 pub switch_put : (z : ℤ) (zs : List ℤ) (here next place moved : ℕ) (code1 code2 code3 : List ℕ) (holes2 : List Hole) (old new : Scan) → here < next → place ≡ here + 1 → moved ≡ length old.code.items
     → code1 ≡ old.code.items ++ 0x1b ∷ [] → code2 ≡ code1 ++ s24_bytes z → holes2 ≡ old.holes.items ++ record { place = place; at = length code1; base = here; moved = moved; offset = z } ∷ []
     → code3 ≡ code2 ++ number_bytes (length zs - 1) → new.code.items ≡ code3 ++ flat_map s24_bytes zs → new.holes.items ≡ holes2 ++ case_holes next (length code3) here moved zs → new.marks ≡ old.marks
-    → Adds (raws.Switch z zs) (next - here) here old new
+    → AddsInstruction (raws.Switch z zs) (next - here) here old new
 switch_put z zs here next place moved code1 code2 code3 holes2 old new lt p m first second default third fourth cases marks =
     let many = number_bytes (length zs - 1) in
     let rest = flat_map s24_bytes zs in

@@ -14,14 +14,14 @@ use Rattle.abc_file_types.specs.Code.{code, code_body}
 use Rattle.abc_file_types.specs.Instructions.{Branch, Same, Switch, code_length, pieces}
 use Rattle.abc_file_types.specs.Ready.{IsReady}
 use Rattle.abc_file_types.specs.Starts.{IsRising, starts, size}
-use Rattle.abc_file_types.specs.Targets.{instr_of, instrs_of, resolve}
+use Rattle.abc_file_types.specs.Targets.{instr_of, instrs_of, resolve_targets}
 use Rattle.abc_file_types.proofs.Resolving.{drop_read, few_starts, length-starts, missed_within, starts_rising}
 use Rattle.abc_instr.specs.declared.raw.RawInstr.{RawInstr as Raw}
 use Rattle.abc_instr.specs.declared.raw.RawInstr.TheVariants as raws
 use Rattle.abc_instr.specs.declared.reading.Reading.{Reading}
 use Rattle.abc_instr.specs.Offsets.{IsRaw, has_targets, raw_of}
-use Rattle.abc_instr.specs.Reading.{AreSmallStarts, IsRead, IsReading, Takes, aimed, aims_from, aims_in, done_in, raws_of, spelled, starts_before, with_starts}
-use Rattle.abc_instr.specs.Resolving.{onto}
+use Rattle.abc_instr.specs.Reading.{AreSmallStarts, AreInstructionsRead, IsReading, Takes, with_targets, aims_from, aims_in, done_in, raws_in_pieces, raw_instr, starts_before, with_starts}
+use Rattle.abc_instr.specs.Resolving.{onto_found}
 use Rattle.abc_instr.specs.Scanning.{AreRead, jump_in, raws_in}
 use Rattle.abc_instr.proofs.Passing.{raws_size, raws_some, raws_starts}
 use Rattle.abc_instr.proofs.Resolved.{resolved_ready}
@@ -53,8 +53,8 @@ as_few (x ∷ xs) some = omega (arith, some 0 x (omega arith), as_few xs (λ k d
 -- ---- one more
 
 -- there are as many as were read
-pub read_count : (xs : List (Raw × ℕ)) (is : List Instr) → map spelled is ≡ raws_of xs → length is ≡ length xs
-read_count xs is e = sym (length-map is spelled) ∙ ap length e ∙ length-map xs (λ (x : Raw × ℕ). raw_of x.0)
+pub read_count : (xs : List (Raw × ℕ)) (is : List Instr) → map raw_instr is ≡ raws_in_pieces xs → length is ≡ length xs
+read_count xs is e = sym (length-map is raw_instr) ∙ ap length e ∙ length-map xs (λ (x : Raw × ℕ). raw_of x.0)
 
 aims_push : (i : ℕ) (xs : List (Raw × ℕ)) (x : Raw × ℕ) → aims_from i (xs ++ x ∷ []) ≡ aims_from i xs ++ aims_in (jump_in x.0) (i + length xs)
 aims_push i [] x = let a : i + 0 ≡ i = omega arith in rw a (append-nil (aims_in (jump_in x.0) i))
@@ -64,7 +64,7 @@ aims_push i (y ∷ xs) x =
     let g = rw a at (aims_push (i + 1) xs x) in
     ap (λ (l : List ℕ). one ++ l) g ∙ sym (append_assoc one (aims_from (i + 1) xs) _)
 
-raws_push : (xs : List (Raw × ℕ)) (x : Raw × ℕ) → raws_of (xs ++ x ∷ []) ≡ raws_of xs ++ raw_of x.0 ∷ []
+raws_push : (xs : List (Raw × ℕ)) (x : Raw × ℕ) → raws_in_pieces (xs ++ x ∷ []) ≡ raws_in_pieces xs ++ raw_of x.0 ∷ []
 raws_push xs x = map-append (λ (y : Raw × ℕ). raw_of y.0) xs (x ∷ [])
 
 -- An instruction x of n bytes came to some others, whose end was put among the starts before.
@@ -74,16 +74,16 @@ reading_push xs x n here old mid new h is starts instrs aims takes =
     let count = read_count xs old.instrs is.instrs in
     record {
       starts = takes.starts ∙ starts ∙ rw (is.starts, h) (simp zero-add at (sym (starts_push 0 xs (x, n))));
-      instrs = ap (map spelled) (takes.instrs ∙ ap (λ (l : List Instr). l ++ takes.instr ∷ []) instrs) ∙ map-append spelled old.instrs (takes.instr ∷ []) ∙ rw (is.instrs, takes.is) (sym (raws_push xs (x, n)));
+      instrs = ap (map raw_instr) (takes.instrs ∙ ap (λ (l : List Instr). l ++ takes.instr ∷ []) instrs) ∙ map-append raw_instr old.instrs (takes.instr ∷ []) ∙ rw (is.instrs, takes.is) (sym (raws_push xs (x, n)));
       aims = takes.aims ∙ rw (instrs, count, aims, is.aims) (simp zero-add at (sym (aims_push 0 xs (x, n))));
     }
 
 -- Once the end is put among the starts, nothing is left to read.
 pub reading_whole : (xs : List (Raw × ℕ)) (here : ℕ) (old new : Reading) → here ≡ size xs → IsReading xs old
-    → new.starts ≡ old.starts ++ here ∷ [] → new.instrs ≡ old.instrs → new.aims.items ≡ old.aims.items → IsRead xs new
+    → new.starts ≡ old.starts ++ here ∷ [] → new.instrs ≡ old.instrs → new.aims.items ≡ old.aims.items → AreInstructionsRead xs new
 reading_whole xs here old new h is starts instrs aims = record {
   starts = starts ∙ rw (is.starts, h) (simp zero-add at (starts_end 0 xs));
-  instrs = ap (map spelled) instrs ∙ is.instrs;
+  instrs = ap (map raw_instr) instrs ∙ is.instrs;
   aims = aims ∙ is.aims;
 }
 
@@ -99,10 +99,10 @@ aims_ok n i (x ∷ xs) le =
     let P : ℕ → Type 0 = λ a. a < n in
     All-append P (aims_in (jump_in x.0) i) (aims_from (i + 1) xs) (aim_ok n i (jump_in x.0) (omega arith)) (aims_ok n (i + 1) xs (omega arith))
 
-pub aims_are : (xs : List (Raw × ℕ)) (r : Reading) → IsRead xs r → All (λ a. a < length r.instrs) r.aims.items
+pub aims_are : (xs : List (Raw × ℕ)) (r : Reading) → AreInstructionsRead xs r → All (λ a. a < length r.instrs) r.aims.items
 aims_are xs r is = rw (read_count xs r.instrs is.instrs, is.aims) (aims_ok (length xs) 0 xs (omega arith))
 
-pub places_are : (n : ℕ) (xs : List (Raw × ℕ)) (r : Reading) → n < 2 ^ 23 → IsRead xs r → AreRead n xs → AreSmallStarts (length r.instrs) r.starts
+pub places_are : (n : ℕ) (xs : List (Raw × ℕ)) (r : Reading) → n < 2 ^ 23 → AreInstructionsRead xs r → AreRead n xs → AreSmallStarts (length r.instrs) r.starts
 places_are n xs r small is read = record {
   rising = subst IsRising (sym is.starts) (starts_rising xs read.some);
   count = omega (arith, ap length is.starts, length-starts 0 xs, read_count xs r.instrs is.instrs);
@@ -112,16 +112,16 @@ places_are n xs r small is read = record {
 
 -- ---- targets
 
-onto_step : {A : Type 0} (front : List A) (x : A) (more : Result (List A) Refusal) → onto (front ++ x ∷ []) more ≡ onto front (more >>= λ ys. Ok (x ∷ ys))
+onto_step : {A : Type 0} (front : List A) (x : A) (more : Result (List A) Refusal) → onto_found (front ++ x ∷ []) more ≡ onto_found front (more >>= λ ys. Ok (x ∷ ys))
 onto_step {A = A} front x (Ok ys) = ap (λ (zs : List A). Ok zs) (append_assoc front (x ∷ []) ys)
 onto_step front x (Err d) = refl
 
 -- one that waits gets its targets, and then the others do
 waiting : (ss : List ℕ) (i : ℕ) (front others : List Instr) (y : Instr) (aims : List ℕ) (one : Result Instr Refusal) (more : Result (List Instr) Refusal) → i ≡ length front
-    → ((z : Instr) → aimed ss aims ((front ++ z ∷ []) ++ others) ≡ onto (front ++ z ∷ []) more)
-    → (one >>= λ z. aimed ss aims (set (front ++ y ∷ others) i z)) ≡ onto front (one >>= λ z. more >>= λ zs. Ok (z ∷ zs))
+    → ((z : Instr) → with_targets ss aims ((front ++ z ∷ []) ++ others) ≡ onto_found (front ++ z ∷ []) more)
+    → (one >>= λ z. with_targets ss aims (set (front ++ y ∷ others) i z)) ≡ onto_found front (one >>= λ z. more >>= λ zs. Ok (z ∷ zs))
 waiting ss i front others y aims (Ok z) more e rest =
-    ap (aimed ss aims) (ap (λ (k : ℕ). set (front ++ y ∷ others) k z) e ∙ set-append_seam front y others z ∙ sym (append_assoc front (z ∷ []) others)) ∙ rest z ∙ onto_step front z more
+    ap (with_targets ss aims) (ap (λ (k : ℕ). set (front ++ y ∷ others) k z) e ∙ set-append_seam front y others z ∙ sym (append_assoc front (z ∷ []) others)) ∙ rest z ∙ onto_step front z more
 waiting ss i front others y aims (Err d) more e rest = refl
 
 seam : {A : Type 0} (front : List A) (y : A) (others : List A) (i : ℕ) (d : A) → i ≡ length front → get_or (front ++ y ∷ others) i d ≡ y
@@ -135,14 +135,14 @@ next_start : (before : List ℕ) (i h : ℕ) (xs : List (Raw × ℕ)) (ss : List
 next_start before i h xs ss s e = let z : i ≡ length before + 0 = omega (arith, e) in rw (s, z) (get_or-append-add before (starts h xs) 0 0 ∙ first_start h xs)
 
 -- the same where it is one of them, from place h on
-waits : (ss : List ℕ) (i h n : ℕ) (x : Raw) (xs : List (Raw × ℕ)) (front others : List Instr) (y : Instr) → i ≡ length front → get_or ss i 0 ≡ h → get_or ss (i + 1) 0 ≡ h + n → spelled y ≡ raw_of x
-    → ((z : Instr) → aimed ss (aims_from (i + 1) xs) ((front ++ z ∷ []) ++ others) ≡ onto (front ++ z ∷ []) (instrs_of ss (h + n) (raws_in xs)))
-    → aimed ss (i ∷ aims_from (i + 1) xs) (front ++ y ∷ others) ≡ onto front (instr_of ss h (h + n) (raw_of x) >>= λ z. instrs_of ss (h + n) (raws_in xs) >>= λ zs. Ok (z ∷ zs))
+waits : (ss : List ℕ) (i h n : ℕ) (x : Raw) (xs : List (Raw × ℕ)) (front others : List Instr) (y : Instr) → i ≡ length front → get_or ss i 0 ≡ h → get_or ss (i + 1) 0 ≡ h + n → raw_instr y ≡ raw_of x
+    → ((z : Instr) → with_targets ss (aims_from (i + 1) xs) ((front ++ z ∷ []) ++ others) ≡ onto_found (front ++ z ∷ []) (instrs_of ss (h + n) (raws_in xs)))
+    → with_targets ss (i ∷ aims_from (i + 1) xs) (front ++ y ∷ others) ≡ onto_found front (instr_of ss h (h + n) (raw_of x) >>= λ z. instrs_of ss (h + n) (raws_in xs) >>= λ zs. Ok (z ∷ zs))
 waits ss i h n x xs front others y e here next is rest =
     rw (here, next, seam front y others i (variants.Plain 0) e, is) (waiting ss i front others y (aims_from (i + 1) xs) (instr_of ss h (h + n) (raw_of x)) (instrs_of ss (h + n) (raws_in xs)) e rest)
 
 -- only what has no targets is spelled as itself
-same_is : (y j : Instr) → spelled y ≡ Same j → y ≡ j
+same_is : (y j : Instr) → raw_instr y ≡ Same j → y ≡ j
 same_is (variants.Plain op) j e = cc
 same_is (variants.One op n) j e = cc
 same_is (variants.Two op n m) j e = cc
@@ -153,56 +153,56 @@ same_is (variants.Short z) j e = cc
 same_is (variants.ScopeObject x) j e = cc
 same_is (variants.Debug kind name reg extra) j e = cc
 
-aimed_all : (ss before : List ℕ) (i h : ℕ) (xs : List (Raw × ℕ)) (front is : List Instr) → ss ≡ before ++ starts h xs → i ≡ length before → i ≡ length front → map spelled is ≡ raws_of xs
-    → aimed ss (aims_from i xs) (front ++ is) ≡ onto front (instrs_of ss h (raws_in xs))
+aimed_all : (ss before : List ℕ) (i h : ℕ) (xs : List (Raw × ℕ)) (front is : List Instr) → ss ≡ before ++ starts h xs → i ≡ length before → i ≡ length front → map raw_instr is ≡ raws_in_pieces xs
+    → with_targets ss (aims_from i xs) (front ++ is) ≡ onto_found front (instrs_of ss h (raws_in xs))
 aimed_all ss before i h [] front [] s b e k = refl
 aimed_all ss before i h [] front (y ∷ ys) s b e k = absurd cc
 aimed_all ss before i h (x ∷ xs) front [] s b e k = absurd cc
 aimed_all ss before i h ((raws.Same j, n) ∷ xs) front (y ∷ ys) s b e k =
-    let one : spelled y ≡ Same j = cc in
-    let more : map spelled ys ≡ raws_of xs = cc in
+    let one : raw_instr y ≡ Same j = cc in
+    let more : map raw_instr ys ≡ raws_in_pieces xs = cc in
     let s2 = s ∙ sym (append_assoc before (h ∷ []) (starts (h + n) xs)) in
     let b2 : i + 1 ≡ length (before ++ h ∷ []) = omega (arith, b, length-append before (h ∷ [])) in
     let e2 : i + 1 ≡ length (front ++ j ∷ []) = omega (arith, e, length-append front (j ∷ [])) in
-    ap (aimed ss (aims_from (i + 1) xs)) (ap (λ (z : Instr). front ++ z ∷ ys) (same_is y j one) ∙ sym (append_assoc front (j ∷ []) ys))
+    ap (with_targets ss (aims_from (i + 1) xs)) (ap (λ (z : Instr). front ++ z ∷ ys) (same_is y j one) ∙ sym (append_assoc front (j ∷ []) ys))
     ∙ aimed_all ss (before ++ h ∷ []) (i + 1) (h + n) xs (front ++ j ∷ []) ys s2 b2 e2 more ∙ onto_step front j (instrs_of ss (h + n) (raws_in xs))
 aimed_all ss before i h ((raws.Branch op z, n) ∷ xs) front (y ∷ ys) s b e k =
-    let one : spelled y ≡ Branch op z = cc in
-    let more : map spelled ys ≡ raws_of xs = cc in
+    let one : raw_instr y ≡ Branch op z = cc in
+    let more : map raw_instr ys ≡ raws_in_pieces xs = cc in
     let s2 = s ∙ sym (append_assoc before (h ∷ []) (starts (h + n) xs)) in
     let b2 : i + 1 ≡ length (before ++ h ∷ []) = omega (arith, b, length-append before (h ∷ [])) in
     waits ss i h n (raws.Branch op z) xs front ys y e (next_start before i h ((raws.Branch op z, n) ∷ xs) ss s b) (next_start (before ++ h ∷ []) (i + 1) (h + n) xs ss s2 b2) one
     (λ w. aimed_all ss (before ++ h ∷ []) (i + 1) (h + n) xs (front ++ w ∷ []) ys s2 b2 (omega (arith, e, length-append front (w ∷ []))) more)
 aimed_all ss before i h ((raws.Switch z zs, n) ∷ xs) front (y ∷ ys) s b e k =
-    let one : spelled y ≡ Switch z zs = cc in
-    let more : map spelled ys ≡ raws_of xs = cc in
+    let one : raw_instr y ≡ Switch z zs = cc in
+    let more : map raw_instr ys ≡ raws_in_pieces xs = cc in
     let s2 = s ∙ sym (append_assoc before (h ∷ []) (starts (h + n) xs)) in
     let b2 : i + 1 ≡ length (before ++ h ∷ []) = omega (arith, b, length-append before (h ∷ [])) in
     waits ss i h n (raws.Switch z zs) xs front ys y e (next_start before i h ((raws.Switch z zs, n) ∷ xs) ss s b) (next_start (before ++ h ∷ []) (i + 1) (h + n) xs ss s2 b2) one
     (λ w. aimed_all ss (before ++ h ∷ []) (i + 1) (h + n) xs (front ++ w ∷ []) ys s2 b2 (omega (arith, e, length-append front (w ∷ []))) more)
 
 -- what was read gets its targets from its starts
-pub aimed_is : (xs : List (Raw × ℕ)) (r : Reading) → IsRead xs r → aimed r.starts r.aims.items r.instrs ≡ instrs_of (starts 0 xs) 0 (raws_in xs)
+pub aimed_is : (xs : List (Raw × ℕ)) (r : Reading) → AreInstructionsRead xs r → with_targets r.starts r.aims.items r.instrs ≡ instrs_of (starts 0 xs) 0 (raws_in xs)
 aimed_is xs r is = rw (is.starts, is.aims) (aimed_all (starts 0 xs) [] 0 0 xs [] r.instrs refl refl refl is.instrs ∙ nothing (instrs_of (starts 0 xs) 0 (raws_in xs))) where
-  nothing : (o : Result (List Instr) Refusal) → onto [] o ≡ o
+  nothing : (o : Result (List Instr) Refusal) → onto_found [] o ≡ o
   nothing (Ok xs) = refl
   nothing (Err d) = refl
 
 -- one that waits after the other, as a loop takes them
-module _ (ss aims : List ℕ) (k a : ℕ) (lt : k < length aims) (at : a ≡ get_or aims k a) (is : List Instr) (all : Result (List Instr) Refusal) (h : aimed ss (drop k aims) is ≡ all) (j : Instr) (within : a < length is) (held : get_or is a j ≡ j) (here next : ℕ)
+module _ (ss aims : List ℕ) (k a : ℕ) (lt : k < length aims) (at : a ≡ get_or aims k a) (is : List Instr) (all : Result (List Instr) Refusal) (h : with_targets ss (drop k aims) is ≡ all) (j : Instr) (within : a < length is) (held : get_or is a j ≡ j) (here next : ℕ)
     (first : here ≡ get_or ss a 0) (second : next ≡ get_or ss (a + 1) 0) where
-  step : aimed ss (drop k aims) is ≡ (instr_of ss here next (spelled j) >>= λ i. aimed ss (drop (k + 1) aims) (set is a i))
+  step : with_targets ss (drop k aims) is ≡ (instr_of ss here next (raw_instr j) >>= λ i. with_targets ss (drop (k + 1) aims) (set is a i))
   step =
       let one = get_or_default is a (variants.Plain 0) j within ∙ held in
-      ap (λ (l : List ℕ). aimed ss l is) (drop_read aims k a lt at) ∙ rw (first, second, one) refl
+      ap (λ (l : List ℕ). with_targets ss l is) (drop_read aims k a lt at) ∙ rw (first, second, one) refl
 
-  pub aims_on : (y : Instr) → instr_of ss here next (spelled j) ≡ Ok y → aimed ss (drop (k + 1) aims) (set (set is a (variants.Plain 0)) a y) ≡ all
+  pub aims_on : (y : Instr) → instr_of ss here next (raw_instr j) ≡ Ok y → with_targets ss (drop (k + 1) aims) (set (set is a (variants.Plain 0)) a y) ≡ all
   aims_on y e =
-      ap (aimed ss (drop (k + 1) aims)) (set-set is a (variants.Plain 0) y) ∙ sym (ap (λ (r : Result Instr Refusal). r >>= λ i. aimed ss (drop (k + 1) aims) (set is a i)) e) ∙ sym step ∙ h
+      ap (with_targets ss (drop (k + 1) aims)) (set-set is a (variants.Plain 0) y) ∙ sym (ap (λ (r : Result Instr Refusal). r >>= λ i. with_targets ss (drop (k + 1) aims) (set is a i)) e) ∙ sym step ∙ h
 
 -- ---- one instruction
 
-as_itself : (i : Instr) → has_targets i ≡ false → spelled i ≡ Same i
+as_itself : (i : Instr) → has_targets i ≡ false → raw_instr i ≡ Same i
 as_itself (variants.Plain op) e = refl
 as_itself (variants.One op n) e = refl
 as_itself (variants.Two op n m) e = refl
@@ -220,7 +220,7 @@ done (raws.Branch op z) old new raw none put a s = absurd cc
 done (raws.Switch z zs) old new raw none put a s = absurd cc
 
 -- one with targets waits
-pub waited : (i j : Raw) (y : Instr) (old mid new : Reading) → Some j ≡ jump_in i → spelled y ≡ raw_of j → mid.instrs ≡ old.instrs ++ done_in i → mid.aims.items ≡ old.aims.items → mid.starts ≡ old.starts
+pub waited : (i j : Raw) (y : Instr) (old mid new : Reading) → Some j ≡ jump_in i → raw_instr y ≡ raw_of j → mid.instrs ≡ old.instrs ++ done_in i → mid.aims.items ≡ old.aims.items → mid.starts ≡ old.starts
     → new.instrs ≡ mid.instrs ++ y ∷ [] → new.aims.items ≡ mid.aims.items ++ length mid.instrs ∷ [] → new.starts ≡ mid.starts → Takes i old new
 waited (raws.Same i) j y old mid new e is put a s instrs aims starts = absurd cc
 waited (raws.Branch op z) j y old mid new e is put a s instrs aims starts =
@@ -236,17 +236,17 @@ waited (raws.Switch z zs) j y old mid new e is put a s instrs aims starts =
 
 -- the instructions that were read, with their targets
 abbrev pub made_in : Reading → Result (List Instr) Refusal
-made_in r = aimed r.starts r.aims.items r.instrs
+made_in r = with_targets r.starts r.aims.items r.instrs
 
-pub resolved : (xs : List (Raw × ℕ)) (r : Reading) → IsRead xs r → resolve (raws_in xs) ≡ with_starts r.starts (made_in r)
-unfolding resolve
+pub resolved : (xs : List (Raw × ℕ)) (r : Reading) → AreInstructionsRead xs r → resolve_targets (raws_in xs) ≡ with_starts r.starts (made_in r)
+unfolding resolve_targets
 resolved xs r is = rw (aimed_is xs r is, is.starts, raws_starts 0 xs) refl
 
-pub code_read : (n : ℕ) (from a b : At) (xs : List (Raw × ℕ)) (c : Code) → code_length.reads from ≡ Ok (n, a) → (pieces n).reads a ≡ Ok (raws_in xs, b) → resolve (raws_in xs) ≡ Ok c → code.reads from ≡ Ok (c, b)
+pub code_read : (n : ℕ) (from a b : At) (xs : List (Raw × ℕ)) (c : Code) → code_length.reads from ≡ Ok (n, a) → (pieces n).reads a ≡ Ok (raws_in xs, b) → resolve_targets (raws_in xs) ≡ Ok c → code.reads from ≡ Ok (c, b)
 unfolding code code_body
 code_read n from a b xs c e f g = rw (e, f, g) refl
 
-pub code_refused : (n : ℕ) (from a b : At) (xs : List (Raw × ℕ)) (d : Refusal) → code_length.reads from ≡ Ok (n, a) → (pieces n).reads a ≡ Ok (raws_in xs, b) → resolve (raws_in xs) ≡ Err d → code.reads from ≡ Err (refusal (a.place + d.place) d.reason)
+pub code_refused : (n : ℕ) (from a b : At) (xs : List (Raw × ℕ)) (d : Refusal) → code_length.reads from ≡ Ok (n, a) → (pieces n).reads a ≡ Ok (raws_in xs, b) → resolve_targets (raws_in xs) ≡ Err d → code.reads from ≡ Err (refusal (a.place + d.place) d.reason)
 unfolding code code_body
 code_refused n from a b xs d e f g = rw (e, f, g) refl
 
@@ -258,7 +258,7 @@ pub record CodeOf (xs : List (Raw × ℕ)) (ss : List ℕ) (is : List Instr) : T
   pub count : length ss ≡ length is + 1
   pub ready : IsReady is
 
-pub code_of : (n : ℕ) (xs : List (Raw × ℕ)) (r : Reading) (is : List Instr) → n < 2 ^ 23 → IsRead xs r → AreRead n xs → made_in r ≡ Ok is → CodeOf xs r.starts is
+pub code_of : (n : ℕ) (xs : List (Raw × ℕ)) (r : Reading) (is : List Instr) → n < 2 ^ 23 → AreInstructionsRead xs r → AreRead n xs → made_in r ≡ Ok is → CodeOf xs r.starts is
 code_of n xs r js small is read e =
     let places = places_are n xs r small is read in
     let count = length-starts 0 xs in
@@ -273,5 +273,5 @@ code_of n xs r js small is read e =
     }
 
 -- where the target stands that leads nowhere
-pub missed_near : (xs : List (Raw × ℕ)) (r : Reading) (d : Refusal) → IsRead xs r → All (λ x. 0 < x.1) xs → made_in r ≡ Err d → d.place ≤ size xs
+pub missed_near : (xs : List (Raw × ℕ)) (r : Reading) (d : Refusal) → AreInstructionsRead xs r → All (λ x. 0 < x.1) xs → made_in r ≡ Err d → d.place ≤ size xs
 missed_near xs r d is some e = omega (arith, missed_within (starts 0 xs) 0 (raws_in xs) d (raws_some xs some) (sym (aimed_is xs r is) ∙ e), raws_size xs)

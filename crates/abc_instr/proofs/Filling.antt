@@ -8,7 +8,7 @@ use Rattle.std.proofs.lemmas.List.{append-nil, drop-drop, get_or_default, take_a
 use Rattle.std.proofs.lemmas.List.Elements.{All-cons, All-nil}
 use Rattle.abc_file_types.specs.declared.code.Instr.{Instr}
 use Rattle.abc_file_types.specs.declared.code.Instr.TheVariants as instrs
-use Rattle.abc_file_types.specs.CodeBytes.{canonical_starts, code_bytes, code_len, instr_bytes, instr_len, instrs_bytes, sized}
+use Rattle.abc_file_types.specs.CodeBytes.{canonical_starts, code_bytes, code_len, instr_bytes, instr_len, instrs_bytes, with_lengths}
 use Rattle.abc_file_types.specs.Starts.{starts as starts_from}
 use Rattle.abc_file_types.proofs.CodeShortest.{code_bytes_length}
 use Rattle.abc_file_types.proofs.Lengths.{canonical_start, len-append}
@@ -17,7 +17,7 @@ use Rattle.abc_varint.proofs.Putting.{stays}
 use Rattle.abc_instr.specs.declared.pieces.Gap.{Gap}
 use Rattle.abc_instr.specs.declared.pieces.Pieces.{Pieces}
 use Rattle.abc_instr.specs.Offsets.{has_targets}
-use Rattle.abc_instr.specs.Pieces.{aimed_bytes, filled, free_bytes, gap_bytes, gaps_from, gaps_in, ArePieces, SoFar}
+use Rattle.abc_instr.specs.Pieces.{aimed_bytes, with_gaps, free_bytes, gap_bytes, gaps_from, gaps_in, ArePieces, SoFar}
 
 -- ---- an instruction has targets or none
 
@@ -91,7 +91,7 @@ pub none_taken : (code : List Instr) (p : Pieces) → p.plain.items ≡ [] → p
 none_taken code p e f g = record {
   plain = ap (λ l. l ++ flat_map free_bytes code) e;
   gaps = ap (λ l. l ++ gaps_from (length p.plain.items) 0 code) f ∙ ap (λ (l : List ℕ). gaps_from (length l) 0 code) e;
-  starts = ap (λ l. l ++ starts_from 0 (sized code)) g;
+  starts = ap (λ l. l ++ starts_from 0 (with_lengths code)) g;
   len = omega arith;
 }
 
@@ -105,7 +105,7 @@ one_more_taken code i here next p q x lt at so end e f g =
       plain = ap (λ l. l ++ flat_map free_bytes rest) e ∙ append_assoc p.plain.items (free_bytes x) (flat_map free_bytes rest) ∙ ap (λ l. p.plain.items ++ flat_map free_bytes l) (sym d) ∙ so.plain;
       gaps = (λ j. f j ++ gaps_from (long j) (i + 1) rest) ∙ append_assoc p.gaps.items (gaps_in x (length p.plain.items) i) (gaps_from (length p.plain.items + length (free_bytes x)) (i + 1) rest)
           ∙ ap (λ l. p.gaps.items ++ gaps_from (length p.plain.items) i l) (sym d) ∙ so.gaps;
-      starts = (λ j. g j ++ starts_from (end j) (sized rest)) ∙ append_assoc p.starts (here ∷ []) (starts_from (here + instr_len x) (sized rest)) ∙ ap (λ l. p.starts ++ starts_from here (sized l)) (sym d) ∙ so.starts;
+      starts = (λ j. g j ++ starts_from (end j) (with_lengths rest)) ∙ append_assoc p.starts (here ∷ []) (starts_from (here + instr_len x) (with_lengths rest)) ∙ ap (λ l. p.starts ++ starts_from here (with_lengths l)) (sym d) ∙ so.starts;
       len = let m : code_len (drop i code) ≡ instr_len x + code_len rest = ap code_len d in omega (arith, end, m, so.len);
     }
 
@@ -121,26 +121,26 @@ all_taken code i here p q le so e f g =
     record {
       plain = e ∙ sym (append-nil p.plain.items) ∙ ap (λ l. p.plain.items ++ flat_map free_bytes l) (sym none) ∙ so.plain;
       gaps = f ∙ sym (append-nil p.gaps.items) ∙ ap (λ l. p.gaps.items ++ gaps_from (length p.plain.items) i l) (sym none) ∙ so.gaps;
-      starts = g ∙ ap (λ l. p.starts ++ starts_from here (sized l)) (sym none) ∙ so.starts;
+      starts = g ∙ ap (λ l. p.starts ++ starts_from here (with_lengths l)) (sym none) ∙ so.starts;
     }
 
 -- ---- what is put between the gaps
 
-pub fills_on : (ss : List ℕ) (code : List Instr) (plain out mid new all : List ℕ) (from i : ℕ) (gs : List Gap) (z : Gap) → i < length gs → out ++ filled ss code plain from (drop i gs) ≡ all → mid ≡ out ++ take ((get_or gs i z).before - from) (drop from plain)
-    → new ≡ mid ++ gap_bytes ss code (get_or gs i z) → new ++ filled ss code plain (get_or gs i z).before (drop (i + 1) gs) ≡ all
+pub fills_on : (ss : List ℕ) (code : List Instr) (plain out mid new all : List ℕ) (from i : ℕ) (gs : List Gap) (z : Gap) → i < length gs → out ++ with_gaps ss code plain from (drop i gs) ≡ all → mid ≡ out ++ take ((get_or gs i z).before - from) (drop from plain)
+    → new ≡ mid ++ gap_bytes ss code (get_or gs i z) → new ++ with_gaps ss code plain (get_or gs i z).before (drop (i + 1) gs) ≡ all
 fills_on ss code plain out mid new all from i gs z lt h e f =
     let g : Gap = get_or gs i z in
     let at : g ≡ get_or gs i g = get_or_default gs i z g lt in
     let t : List ℕ = take (g.before - from) (drop from plain) in
     let b : List ℕ = gap_bytes ss code g in
-    let rest : List ℕ = filled ss code plain g.before (drop (i + 1) gs) in
-    ap (λ l. l ++ rest) (f ∙ ap (λ l. l ++ b) e) ∙ append_assoc (out ++ t) b rest ∙ append_assoc out t (b ++ rest) ∙ ap (λ l. out ++ filled ss code plain from l) (sym (drop_read gs i g lt at)) ∙ h
+    let rest : List ℕ = with_gaps ss code plain g.before (drop (i + 1) gs) in
+    ap (λ l. l ++ rest) (f ∙ ap (λ l. l ++ b) e) ∙ append_assoc (out ++ t) b rest ∙ append_assoc out t (b ++ rest) ∙ ap (λ l. out ++ with_gaps ss code plain from l) (sym (drop_read gs i g lt at)) ∙ h
 
-pub fills_last : (ss : List ℕ) (code : List Instr) (plain out new all : List ℕ) (from i n : ℕ) (gs : List Gap) → length gs ≤ i → n ≡ length plain → out ++ filled ss code plain from (drop i gs) ≡ all → new ≡ out ++ take (n - from) (drop from plain) → new ≡ all
+pub fills_last : (ss : List ℕ) (code : List Instr) (plain out new all : List ℕ) (from i n : ℕ) (gs : List Gap) → length gs ≤ i → n ≡ length plain → out ++ with_gaps ss code plain from (drop i gs) ≡ all → new ≡ out ++ take (n - from) (drop from plain) → new ≡ all
 fills_last ss code plain out new all from i n gs le many h e =
     let none : drop i gs ≡ [] = drop_of_length-le gs le in
     let whole : take (n - from) (drop from plain) ≡ drop from plain = take_all (n - from) (drop from plain) (omega (arith, many, length-drop from plain)) in
-    e ∙ ap (λ l. out ++ l) whole ∙ ap (λ l. out ++ filled ss code plain from l) (sym none) ∙ h
+    e ∙ ap (λ l. out ++ l) whole ∙ ap (λ l. out ++ with_gaps ss code plain from l) (sym none) ∙ h
 
 -- what stood at the front stays
 pub kept_on : (first out new : List ℕ) → take (length first) out ≡ first → take (length out) new ≡ out → take (length first) new ≡ first
@@ -183,7 +183,7 @@ module _ (ss : List ℕ) (code : List Instr) (plain : List ℕ) (are : ss ≡ ca
   starts_here : (k here : ℕ) (xs : List Instr) → k ≤ length code → drop k code ≡ xs → here + code_len xs ≡ code_len code → get_or ss k 0 ≡ here
   starts_here k here xs le d h = ap (λ l. get_or l k 0) are ∙ start_at code k here xs le d h
 
-  fills : (xs : List Instr) (from b k here : ℕ) → from ≤ b → drop b plain ≡ flat_map free_bytes xs → drop k code ≡ xs → here + code_len xs ≡ code_len code → filled ss code plain from (gaps_from b k xs) ≡ take (b - from) (drop from plain) ++ instrs_bytes ss here xs
+  fills : (xs : List Instr) (from b k here : ℕ) → from ≤ b → drop b plain ≡ flat_map free_bytes xs → drop k code ≡ xs → here + code_len xs ≡ code_len code → with_gaps ss code plain from (gaps_from b k xs) ≡ take (b - from) (drop from plain) ++ instrs_bytes ss here xs
   fills [] from b k here le e d h =
       let whole : drop from plain ≡ take (b - from) (drop from plain) ++ drop (b - from) (drop from plain) = sym (take-append-drop (b - from) (drop from plain)) in
       let at : from + (b - from) ≡ b = omega arith in
@@ -202,12 +202,12 @@ module _ (ss : List ℕ) (code : List Instr) (plain : List ℕ) (are : ss ≡ ca
       after : drop (b + n) plain ≡ flat_map free_bytes xs
       after = sym (drop-drop n b plain) ∙ ap (drop n) e ∙ drop-append_seam (free_bytes x) (flat_map free_bytes xs)
 
-      by : IsFree x ⊎ IsAimed x → filled ss code plain from (gaps_from (b + n) (k + 1) xs) ≡ take (b + n - from) (drop from plain) ++ instrs_bytes ss (here + instr_len x) xs
-          → (drop b plain ≡ flat_map free_bytes xs → filled ss code plain b (gaps_from b (k + 1) xs) ≡ take (b - b) (drop b plain) ++ instrs_bytes ss (here + instr_len x) xs)
-          → filled ss code plain from (gaps_from b k (x ∷ xs)) ≡ take (b - from) (drop from plain) ++ instrs_bytes ss here (x ∷ xs)
+      by : IsFree x ⊎ IsAimed x → with_gaps ss code plain from (gaps_from (b + n) (k + 1) xs) ≡ take (b + n - from) (drop from plain) ++ instrs_bytes ss (here + instr_len x) xs
+          → (drop b plain ≡ flat_map free_bytes xs → with_gaps ss code plain b (gaps_from b (k + 1) xs) ≡ take (b - b) (drop b plain) ++ instrs_bytes ss (here + instr_len x) xs)
+          → with_gaps ss code plain from (gaps_from b k (x ∷ xs)) ≡ take (b - from) (drop from plain) ++ instrs_bytes ss here (x ∷ xs)
       by (inl free) more_filled from_here =
           let more = instrs_bytes ss (here + instr_len x) xs in
-          ap (λ gs. filled ss code plain from (gs ++ gaps_from (b + n) (k + 1) xs)) (free.gaps b k) ∙ more_filled
+          ap (λ gs. with_gaps ss code plain from (gs ++ gaps_from (b + n) (k + 1) xs)) (free.gaps b k) ∙ more_filled
           ∙ ap (λ l. l ++ more) (longer plain from b (free_bytes x) (flat_map free_bytes xs) le e) ∙ append_assoc (take (b - from) (drop from plain)) (free_bytes x) more
           ∙ ap (λ l. take (b - from) (drop from plain) ++ (l ++ more)) (sym (free.bytes ss here (here + instr_len x)))
       by (inr aimed) more_filled from_here =
@@ -218,17 +218,17 @@ module _ (ss : List ℕ) (code : List Instr) (plain : List ℕ) (are : ss ≡ ca
           let nothing : b - b ≡ 0 = omega arith in
           let one : gap_bytes ss code g ≡ instr_bytes ss here (here + instr_len x) x =
           (λ j. aimed_bytes ss (starts_here k here (x ∷ xs) (omega (arith, s.within)) d h j) (starts_here (k + 1) (here + instr_len x) xs (omega (arith, s.within)) s.rest left j) (s.at (instrs.Plain 0) j)) ∙ sym (aimed.bytes ss here (here + instr_len x)) in
-          let rest : filled ss code plain b (gaps_from (b + n) (k + 1) xs) ≡ more =
-          ap (λ (m : ℕ). filled ss code plain b (gaps_from m (k + 1) xs)) same ∙ from_here (ap (λ (m : ℕ). drop m plain) (sym same) ∙ after)
+          let rest : with_gaps ss code plain b (gaps_from (b + n) (k + 1) xs) ≡ more =
+          ap (λ (m : ℕ). with_gaps ss code plain b (gaps_from m (k + 1) xs)) same ∙ from_here (ap (λ (m : ℕ). drop m plain) (sym same) ∙ after)
           ∙ ap (λ (m : ℕ). take m (drop b plain) ++ more) nothing in
-          ap (λ gs. filled ss code plain from (gs ++ gaps_from (b + n) (k + 1) xs)) (aimed.gaps b k) ∙ (λ j. take (b - from) (drop from plain) ++ (one j ++ rest j))
+          ap (λ gs. with_gaps ss code plain from (gs ++ gaps_from (b + n) (k + 1) xs)) (aimed.gaps b k) ∙ (λ j. take (b - from) (drop from plain) ++ (one j ++ rest j))
 
-  pub fills_code : plain ≡ flat_map free_bytes code → filled ss code plain 0 (gaps_from 0 0 code) ≡ instrs_bytes ss 0 code
+  pub fills_code : plain ≡ flat_map free_bytes code → with_gaps ss code plain 0 (gaps_from 0 0 code) ≡ instrs_bytes ss 0 code
   fills_code e = fills code 0 0 0 0 (omega arith) e refl (omega arith)
 
-pub filled_is : (code : List Instr) (p : Pieces) (ss plain : List ℕ) (gs : List Gap) → ArePieces code p → ss ≡ p.starts → plain ≡ p.plain.items → gs ≡ p.gaps.items → filled ss code plain 0 gs ≡ instrs_bytes p.starts 0 code
+pub filled_is : (code : List Instr) (p : Pieces) (ss plain : List ℕ) (gs : List Gap) → ArePieces code p → ss ≡ p.starts → plain ≡ p.plain.items → gs ≡ p.gaps.items → with_gaps ss code plain 0 gs ≡ instrs_bytes p.starts 0 code
 filled_is code p ss plain gs are e f g =
-    (λ j. filled (e j) code (f j) 0 (g j)) ∙ ap (λ l. filled p.starts code p.plain.items 0 l) are.gaps ∙ fills_code p.starts code p.plain.items are.starts are.plain
+    (λ j. with_gaps (e j) code (f j) 0 (g j)) ∙ ap (λ l. with_gaps p.starts code p.plain.items 0 l) are.gaps ∙ fills_code p.starts code p.plain.items are.starts are.plain
 
 -- ---- the gaps are of instructions of the code
 

@@ -10,21 +10,21 @@ use Rattle.std.proofs.Math.Seq.{take-add}
 use Rattle.abc_base.specs.Numbers.{SpellsNumber, signed24}
 use Rattle.abc_base.proofs.Spelling.{number_shortest}
 use Rattle.abc_file_types.specs.Canonical.{FitsS24}
-use Rattle.abc_file_types.specs.Ends.{blamed}
+use Rattle.abc_file_types.specs.Ends.{blame_first}
 use Rattle.abc_file_types.specs.Part.{limit}
 use Rattle.abc_file_types.specs.Numbers.{s24, u8, u30}
 use Rattle.abc_file_types.specs.declared.code.Instr.TheVariants as instrs
 use Rattle.abc_file_types.specs.declared.opcodes.Form.{Form}
 use Rattle.abc_file_types.specs.declared.opcodes.Form.TheVariants as forms
-use Rattle.abc_file_types.specs.Instructions.{RawInstr, Branch, Same, instruction, opcode, operands, signed_byte}
+use Rattle.abc_file_types.specs.Instructions.{RawInstr, Branch, Same, instruction, opcode_part, operand_parts, signed_byte}
 use Rattle.abc_file_types.specs.Opcodes.{form_at}
 use Rattle.abc_file_types.proofs.CodeParts.{instruction-exact}
 use Rattle.abc_varint.proofs.Front.{front_taken}
 use Rattle.abc_varint.specs.Reads.{Reads}
-use Rattle.abc_varint.specs.Ready.{IsReady}
-use Rattle.abc_varint.specs.View.{GoesOver, View, held, onward}
+use Rattle.abc_varint.specs.Ready.{HoldsReady}
+use Rattle.abc_varint.specs.View.{GoesOver, View, held_bytes, onward}
 use Rattle.abc_varint.proofs.Inputs.{among}
-use Rattle.abc_instr.specs.Fronts.{IsFront, count_of}
+use Rattle.abc_instr.specs.Fronts.{IsInstructionFront, front_length}
 use Rattle.abc_instr.specs.declared.front.Front.{Front}
 use Rattle.abc_instr.specs.declared.front.Front.TheVariants as fronts
 use Rattle.abc_instr.specs.declared.raw.RawInstr.{RawInstr as Raw}
@@ -32,8 +32,8 @@ use Rattle.abc_instr.specs.declared.raw.RawInstr.TheVariants as raws
 use Rattle.abc_instr.specs.Offsets.{raw_len, raw_of}
 
 -- an opcode, with the operands of its form
-pub spelled : (op : ℕ) (form : Form) (x : RawInstr) (rest : List ℕ) → form_at op ≡ Some form → (operands op form).spells x rest → instruction.spells x (op ∷ rest)
-unfolding instruction opcode u8
+pub spelled : (op : ℕ) (form : Form) (x : RawInstr) (rest : List ℕ) → form_at op ≡ Some form → (operand_parts op form).spells x rest → instruction.spells x (op ∷ rest)
+unfolding instruction opcode_part u8
 spelled op form x rest e s =
     let some : is_some (form_at op) ≡ true = rw e refl in
     let is : (op, form) ≡ (op, unwrap_or (form_at op) forms.Plain) = rw e refl in
@@ -61,7 +61,7 @@ all_after spells k n x bytes s = let all : take (length bytes - k) (drop k bytes
 pub put_after : {A : Type 0} (old mid new a b : List A) → mid ≡ old ++ a → new ≡ mid ++ b → new ≡ old ++ (a ++ b)
 put_after old mid new a b first put = put ∙ rw first (append_assoc old a b)
 
-pub plain_front : {A : Type 0} (puts : Raw → List A) (bytes : List ℕ) (old new : List A) → 11 ≤ length bytes → form_at (get_or bytes 0 0) ≡ Some forms.Plain → new ≡ old ++ puts (raws.Same (instrs.Plain (get_or bytes 0 0))) → IsFront puts (fronts.Put 1) bytes old new
+pub plain_front : {A : Type 0} (puts : Raw → List A) (bytes : List ℕ) (old new : List A) → 11 ≤ length bytes → form_at (get_or bytes 0 0) ≡ Some forms.Plain → new ≡ old ++ puts (raws.Same (instrs.Plain (get_or bytes 0 0))) → IsInstructionFront puts (fronts.Put 1) bytes old new
 plain_front puts [] old new len form put = absurd (omega arith)
 plain_front puts (op ∷ rest) old new len form put = record {
   instr = raws.Same (instrs.Plain op);
@@ -75,7 +75,7 @@ plain_front puts (op ∷ rest) old new len form put = record {
 }
 
 pub one_front : {A : Type 0} (puts : Raw → List A) (bytes : List ℕ) (n k : ℕ) (old new : List A) → 11 ≤ length bytes → form_at (get_or bytes 0 0) ≡ Some forms.One → SpellsNumber n (take k (drop 1 bytes)) → 0 < k → k ≤ 5 → n < 2 ^ 30
-    → new ≡ old ++ puts (raws.Same (instrs.One (get_or bytes 0 0) n)) → IsFront puts (fronts.Put (1 + k)) bytes old new
+    → new ≡ old ++ puts (raws.Same (instrs.One (get_or bytes 0 0) n)) → IsInstructionFront puts (fronts.Put (1 + k)) bytes old new
 one_front puts [] n k old new len form s some few lt put = absurd (omega arith)
 one_front puts (op ∷ rest) n k old new len form s some few lt put =
     let count : length (take k rest) ≡ k = omega (arith, length-take k rest) in
@@ -92,7 +92,7 @@ one_front puts (op ∷ rest) n k old new len form s some few lt put =
 
 pub two_front : {A : Type 0} (puts : Raw → List A) (bytes : List ℕ) (n m j k : ℕ) (old new : List A) → 11 ≤ length bytes → form_at (get_or bytes 0 0) ≡ Some forms.Two
     → SpellsNumber n (take j (drop 1 bytes)) → 0 < j → j ≤ 5 → n < 2 ^ 30 → SpellsNumber m (take k (drop (1 + j) bytes)) → 0 < k → k ≤ 5 → m < 2 ^ 30
-    → new ≡ old ++ puts (raws.Same (instrs.Two (get_or bytes 0 0) n m)) → IsFront puts (fronts.Put (1 + j + k)) bytes old new
+    → new ≡ old ++ puts (raws.Same (instrs.Two (get_or bytes 0 0) n m)) → IsInstructionFront puts (fronts.Put (1 + j + k)) bytes old new
 two_front puts [] n m j k old new len form s some few lt s2 some2 few2 lt2 put = absurd (omega arith)
 two_front puts (op ∷ rest) n m j k old new len form s some few lt s2 some2 few2 lt2 put =
     let one : length (take j rest) ≡ j = omega (arith, length-take j rest) in
@@ -110,7 +110,7 @@ two_front puts (op ∷ rest) n m j k old new len form s some few lt s2 some2 few
     }
 
 pub byte_front : {A : Type 0} (puts : Raw → List A) (bytes : List ℕ) (z : ℤ) (old new : List A) → 11 ≤ length bytes → form_at (get_or bytes 0 0) ≡ Some forms.Byte → negsuc 127 ≤ℤ z → z <ℤ pos 128 → z ≡ cast_signed w8 (get_or bytes 1 0) → get_or bytes 1 0 < 256
-    → new ≡ old ++ puts (raws.Same (instrs.Byte z)) → IsFront puts (fronts.Put 2) bytes old new
+    → new ≡ old ++ puts (raws.Same (instrs.Byte z)) → IsInstructionFront puts (fronts.Put 2) bytes old new
 unfolding signed_byte u8
 byte_front puts [] z old new len form low high is lt put = absurd (omega arith)
 byte_front puts (op ∷ []) z old new len form low high is lt put = absurd (omega arith)
@@ -138,7 +138,7 @@ offset_fits z b s = subst FitsS24 (sym s.2) (signed (s.0.0 % 256 + 256 * (s.0.1.
   ]
 
 pub branch_front : {A : Type 0} (puts : Raw → List A) (bytes : List ℕ) (z : ℤ) (old : List A) → 11 ≤ length bytes → form_at (get_or bytes 0 0) ≡ Some forms.Branch → s24.spells z (take 3 (take (length bytes - 1) (drop 1 bytes)))
-    → puts (raws.Branch (get_or bytes 0 0) z) ≡ [] → IsFront puts (fronts.Branch (get_or bytes 0 0) z) bytes old old
+    → puts (raws.Branch (get_or bytes 0 0) z) ≡ [] → IsInstructionFront puts (fronts.Branch (get_or bytes 0 0) z) bytes old old
 branch_front puts [] z old len form s none = absurd (omega arith)
 branch_front {A = A} puts (op ∷ rest) z old len form s none =
     record {
@@ -153,15 +153,15 @@ branch_front {A = A} puts (op ∷ rest) z old len form s none =
     }
 
 -- what was taken was read
-pub taken : {A : Type 0} (puts : Raw → List A) (f : Front) (w w2 : View) (s : Option (List ℕ)) (old new : List A) → IsReady (count_of f) w → w2 ≡ onward (count_of f) w → (i : IsFront puts f (held w) old new) → Reads (blamed instruction).reads w s w2 s (Ok (raw_of i.instr))
-taken puts f w w2 s old new ready is i = front_taken (blamed instruction) (raw_of i.instr) (count_of f) w w2 s instruction-exact (omega (arith, among w (count_of f) i.some ready.held)) ready i.spelled is
+pub taken : {A : Type 0} (puts : Raw → List A) (f : Front) (w w2 : View) (s : Option (List ℕ)) (old new : List A) → HoldsReady (front_length f) w → w2 ≡ onward (front_length f) w → (i : IsInstructionFront puts f (held_bytes w) old new) → Reads (blame_first instruction).reads w s w2 s (Ok (raw_of i.instr))
+taken puts f w w2 s old new ready is i = front_taken (blame_first instruction) (raw_of i.instr) (front_length f) w w2 s instruction-exact (omega (arith, among w (front_length f) i.some ready.held)) ready i.spelled is
 
 pub record Moves (i : Raw) (w w2 : View) : Type 0 where
   pub moves : w.place < w2.place
   pub passes : GoesOver (raw_len i) w w2
   pub room : w2.place ≤ limit
 
-pub passed : {A : Type 0} (puts : Raw → List A) (f : Front) (w w2 : View) (old new : List A) → IsReady (count_of f) w → w2 ≡ onward (count_of f) w → (i : IsFront puts f (held w) old new) → Moves i.instr w w2
+pub passed : {A : Type 0} (puts : Raw → List A) (f : Front) (w w2 : View) (old new : List A) → HoldsReady (front_length f) w → w2 ≡ onward (front_length f) w → (i : IsInstructionFront puts f (held_bytes w) old new) → Moves i.instr w w2
 passed puts f w w2 old new ready is i =
-    let at : w2.place ≡ w.place + count_of f = ap (λ (v : View). v.place) is in
+    let at : w2.place ≡ w.place + front_length f = ap (λ (v : View). v.place) is in
     record { moves = omega (arith, i.some); passes = (omega (arith, i.short), omega (arith, ready.before)); room = omega (arith, ready.within) }

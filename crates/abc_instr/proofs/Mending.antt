@@ -12,7 +12,7 @@ use Rattle.abc_file_types.specs.declared.code.Instr.{Instr}
 use Rattle.abc_file_types.specs.declared.code.Instr.TheVariants as instrs
 use Rattle.abc_file_types.specs.Canonical.{s24_bytes}
 use Rattle.abc_file_types.specs.CodeBytes.{instr_bytes, instr_len, instrs_bytes, number_len, offset}
-use Rattle.abc_file_types.specs.Targets.{at_start, cases_of, found, instr_of, instrs_of, target_of}
+use Rattle.abc_file_types.specs.Targets.{at_start, cases_of, found_target, instr_of, instrs_of, target_of}
 use Rattle.abc_file_types.proofs.Canon.{s24_length}
 use Rattle.abc_file_types.proofs.Resolving.{drop_read}
 use Rattle.abc_instr.specs.declared.holes.Hole.{Hole}
@@ -23,8 +23,8 @@ use Rattle.abc_instr.specs.declared.resolve.Missed.TheVariants as missed
 use Rattle.abc_instr.specs.declared.scan.Scan.{Scan}
 use Rattle.abc_instr.specs.Marks.{mark_at, moved_at}
 use Rattle.abc_instr.specs.Offsets.{AreRaw, IsRaw, has_targets, raw_len, raw_of}
-use Rattle.abc_instr.specs.Resolving.{Resolves, onto}
-use Rattle.abc_instr.specs.Scanning.{case_holes, holes_from, holes_in, instrs_in, leads, mended, raw_bytes, raws_in, scan_bytes, target_bytes}
+use Rattle.abc_instr.specs.Resolving.{Resolves, onto_found}
+use Rattle.abc_instr.specs.Scanning.{case_holes, holes_from, holes_in, instrs_in, target_moved, mended, raw_bytes, raws_in, scan_bytes, target_bytes}
 use Rattle.abc_instr.proofs.Resolved.{cases_within, instr_set}
 
 -- ---- a write over three bytes
@@ -41,40 +41,40 @@ module _ (f : ℕ → Option ℕ) (hs : List Hole) (i : ℕ) (d : Hole) (lt : i 
   abbrev goes_on : Result ℕ Refusal → Result (List ℕ) Refusal
   goes_on one = (one >>= λ m. Ok (s24_bytes (pos m -ℤ pos hole.moved))) >>= λ b. mended f (splice code hole.at (hole.at + 3) b) (drop (i + 1) hs)
 
-  step : mended f code (drop i hs) ≡ goes_on (found hole.place (leads f (pos hole.base +ℤ hole.offset)))
+  step : mended f code (drop i hs) ≡ goes_on (found_target hole.place (target_moved f (pos hole.base +ℤ hole.offset)))
   step = ap (mended f code) (drop_read hs i hole lt (get_or_default hs i d hole lt))
 
-  pub mends_on : (m : ℕ) → found hole.place (leads f (pos hole.base +ℤ hole.offset)) ≡ Ok m → mended f (splice code hole.at (hole.at + 3) (s24_bytes (pos m -ℤ pos hole.moved))) (drop (i + 1) hs) ≡ all
+  pub mends_on : (m : ℕ) → found_target hole.place (target_moved f (pos hole.base +ℤ hole.offset)) ≡ Ok m → mended f (splice code hole.at (hole.at + 3) (s24_bytes (pos m -ℤ pos hole.moved))) (drop (i + 1) hs) ≡ all
   mends_on m e = sym (ap goes_on e) ∙ sym step ∙ so_far
 
-  pub mends_wrong : (m : Missed) → Resolves {A = ℕ} (found hole.place (leads f (pos hole.base +ℤ hole.offset))) (Err m) → Resolves {A = List ℕ} all (Err m)
+  pub mends_wrong : (m : Missed) → Resolves {A = ℕ} (found_target hole.place (target_moved f (pos hole.base +ℤ hole.offset))) (Err m) → Resolves {A = List ℕ} all (Err m)
   mends_wrong (missed.Target place) e = sym so_far ∙ step ∙ ap goes_on e
   mends_wrong missed.NoMemory e = tt
 
 -- ---- what is put of a scan
 
-pub put_mended : (scan : Scan) (front first new code : List ℕ) → first ≡ front ++ number_bytes (length scan.code.items) → mended (mark_at scan.marks) scan.code.items scan.holes.items ≡ Ok code → new ≡ first ++ code → onto front (scan_bytes scan) ≡ Ok new
+pub put_mended : (scan : Scan) (front first new code : List ℕ) → first ≡ front ++ number_bytes (length scan.code.items) → mended (mark_at scan.marks) scan.code.items scan.holes.items ≡ Ok code → new ≡ first ++ code → onto_found front (scan_bytes scan) ≡ Ok new
 put_mended scan front first new code e m n =
     let many = number_bytes (length scan.code.items) in
-    ap (λ (r : Result (List ℕ) Refusal). onto front (r >>= λ b. Ok (many ++ b))) m ∙ ap (λ (l : List ℕ). Ok l) (sym (append_assoc front many code) ∙ ap (λ (l : List ℕ). l ++ code) (sym e) ∙ sym n)
+    ap (λ (r : Result (List ℕ) Refusal). onto_found front (r >>= λ b. Ok (many ++ b))) m ∙ ap (λ (l : List ℕ). Ok l) (sym (append_assoc front many code) ∙ ap (λ (l : List ℕ). l ++ code) (sym e) ∙ sym n)
 
-pub not_mended : (scan : Scan) (front : List ℕ) (m : Missed) → Resolves {A = List ℕ} (mended (mark_at scan.marks) scan.code.items scan.holes.items) (Err m) → Resolves {A = List ℕ} (onto front (scan_bytes scan)) (Err m)
-not_mended scan front (missed.Target place) e = ap (λ (r : Result (List ℕ) Refusal). onto front (r >>= λ b. Ok (number_bytes (length scan.code.items) ++ b))) e
+pub not_mended : (scan : Scan) (front : List ℕ) (m : Missed) → Resolves {A = List ℕ} (mended (mark_at scan.marks) scan.code.items scan.holes.items) (Err m) → Resolves {A = List ℕ} (onto_found front (scan_bytes scan)) (Err m)
+not_mended scan front (missed.Target place) e = ap (λ (r : Result (List ℕ) Refusal). onto_found front (r >>= λ b. Ok (number_bytes (length scan.code.items) ++ b))) e
 not_mended scan front missed.NoMemory e = tt
 
 -- ---- where targets are moved
 
-leads_is : (ss ms : List ℕ) (z : ℤ) → leads (moved_at ss ms) z ≡ option_map (λ n. get_or ms n 0) (at_start ss z)
+leads_is : (ss ms : List ℕ) (z : ℤ) → target_moved (moved_at ss ms) z ≡ option_map (λ n. get_or ms n 0) (at_start ss z)
 leads_is ss ms (pos p) = refl
 leads_is ss ms (negsuc p) = refl
 
-found_map : (place : ℕ) (g : ℕ → ℕ) (h : ℕ → List ℕ) (o : Option ℕ) → (found place (option_map g o) >>= λ m. Ok (h m)) ≡ (found place o >>= λ t. Ok (h (g t)))
+found_map : (place : ℕ) (g : ℕ → ℕ) (h : ℕ → List ℕ) (o : Option ℕ) → (found_target place (option_map g o) >>= λ m. Ok (h m)) ≡ (found_target place o >>= λ t. Ok (h (g t)))
 found_map place g h (Some t) = refl
 found_map place g h None = refl
 
-target_is : (ss ms : List ℕ) (place base moved : ℕ) (z : ℤ) → target_bytes (moved_at ss ms) place base moved z ≡ (found place (target_of ss base z) >>= λ t. Ok (s24_bytes (offset ms moved t)))
+target_is : (ss ms : List ℕ) (place base moved : ℕ) (z : ℤ) → target_bytes (moved_at ss ms) place base moved z ≡ (found_target place (target_of ss base z) >>= λ t. Ok (s24_bytes (offset ms moved t)))
 target_is ss ms place base moved z =
-    ap (λ (o : Option ℕ). found place o >>= λ m. Ok (s24_bytes (pos m -ℤ pos moved))) (leads_is ss ms (pos base +ℤ z)) ∙ found_map place (λ n. get_or ms n 0) (λ m. s24_bytes (pos m -ℤ pos moved)) (target_of ss base z)
+    ap (λ (o : Option ℕ). found_target place o >>= λ m. Ok (s24_bytes (pos m -ℤ pos moved))) (leads_is ss ms (pos base +ℤ z)) ∙ found_map place (λ n. get_or ms n 0) (λ m. s24_bytes (pos m -ℤ pos moved)) (target_of ss base z)
 
 -- ---- one hole
 
@@ -96,10 +96,10 @@ mended-append f code (h ∷ hs) gs = by (target_bytes f h.place h.base h.moved h
 module _ (ss ms : List ℕ) where
   hole_step : (h : Hole) (hs : List Hole) (front old rest : List ℕ) (more : List ℕ → Result (List ℕ) Refusal) → h.at ≡ length front → length old ≡ 3
       → ((b : List ℕ) → length b ≡ 3 → mended (moved_at ss ms) (front ++ (b ++ rest)) hs ≡ more b)
-      → mended (moved_at ss ms) (front ++ (old ++ rest)) (h ∷ hs) ≡ (found h.place (target_of ss h.base h.offset) >>= λ t. more (s24_bytes (offset ms h.moved t)))
+      → mended (moved_at ss ms) (front ++ (old ++ rest)) (h ∷ hs) ≡ (found_target h.place (target_of ss h.base h.offset) >>= λ t. more (s24_bytes (offset ms h.moved t)))
   hole_step h hs front old rest more e three goes =
       ap (λ (r : Result (List ℕ) Refusal). r >>= λ b. mended (moved_at ss ms) (splice (front ++ (old ++ rest)) h.at (h.at + 3) b) hs) (target_is ss ms h.place h.base h.moved h.offset)
-      ∙ by (found h.place (target_of ss h.base h.offset)) where
+      ∙ by (found_target h.place (target_of ss h.base h.offset)) where
         by : (one : Result ℕ Refusal) → ((one >>= λ t. Ok (s24_bytes (offset ms h.moved t))) >>= λ b. mended (moved_at ss ms) (splice (front ++ (old ++ rest)) h.at (h.at + 3) b) hs)
             ≡ (one >>= λ t. more (s24_bytes (offset ms h.moved t)))
         by (Ok t) =
@@ -122,7 +122,7 @@ module _ (ss ms : List ℕ) where
       ∙ hole_step h (case_holes next (at + 3) base moved zs) front (s24_bytes z) (others ++ rest) (λ b. cases_of ss base next zs >>= λ ts. Ok ((front ++ b) ++ (each_case moved ts ++ rest))) e (s24_length z)
       (λ b three. ap (λ (l : List ℕ). mended (moved_at ss ms) l (case_holes next (at + 3) base moved zs)) (sym (append_assoc front b (others ++ rest)))
       ∙ cases_mended (front ++ b) rest next (at + 3) base moved zs (omega (arith, e, three, length-append front b)))
-      ∙ joins (found h.place (target_of ss base z)) (cases_of ss base next zs) where
+      ∙ joins (found_target h.place (target_of ss base z)) (cases_of ss base next zs) where
         joins : (one : Result ℕ Refusal) (more : Result (List ℕ) Refusal) → (one >>= λ t. more >>= λ ts. Ok ((front ++ s24_bytes (offset ms moved t)) ++ (each_case moved ts ++ rest)))
             ≡ ((one >>= λ t. more >>= λ ts. Ok (t ∷ ts)) >>= λ ts. Ok (front ++ (each_case moved ts ++ rest)))
         joins (Ok t) (Ok ts) =
@@ -153,7 +153,7 @@ module _ (ss ms : List ℕ) where
       let h : Hole = record { place = here + 1; at = moved + 1; base = next; moved = moved + 4; offset = z } in
       ap (λ (l : List ℕ). mended (moved_at ss ms) l (h ∷ [])) (sym (append_assoc front (op ∷ []) (s24_bytes z ++ rest)))
       ∙ hole_step h [] led (s24_bytes z) rest (λ b. Ok (led ++ (b ++ rest))) (omega (arith, e, length-append front (op ∷ []))) (s24_length z) (λ b three. refl)
-      ∙ joins (found (here + 1) (target_of ss next z)) where
+      ∙ joins (found_target (here + 1) (target_of ss next z)) where
         joins : (one : Result ℕ Refusal) → (one >>= λ t. Ok ((front ++ op ∷ []) ++ (s24_bytes (offset ms (moved + 4) t) ++ rest))) ≡ ((one >>= λ t. Ok (instrs.Branch op t)) >>= λ i. Ok (front ++ (instr_bytes ms moved (moved + 4) i ++ rest)))
         joins (Ok t) = ap (λ (l : List ℕ). Ok l) (append_assoc front (op ∷ []) (s24_bytes (offset ms (moved + 4) t) ++ rest))
         joins (Err d) = refl
@@ -170,7 +170,7 @@ module _ (ss ms : List ℕ) where
       ∙ hole_step h hs led (s24_bytes z) ((many ++ cases) ++ rest) (λ b. cases_of ss here next zs >>= λ ts. Ok (after b ++ (each_case moved ts ++ rest))) (omega (arith, e, length-append front (0x1b ∷ []))) (s24_length z)
       (λ b three. ap (λ (l : List ℕ). mended (moved_at ss ms) l hs) (ap (λ (l : List ℕ). led ++ (b ++ l)) (append_assoc many cases rest) ∙ sym (append_assoc led b (many ++ (cases ++ rest))) ∙ sym (append_assoc (led ++ b) many (cases ++ rest)))
       ∙ cases_mended (after b) rest next at here moved zs (omega (arith, e, three, length-append front (0x1b ∷ []), length-append led b, length-append (led ++ b) many)))
-      ∙ joins (length zs) (moved + raw_len (raws.Switch z zs)) (found (here + 1) (target_of ss here z)) (cases_of ss here next zs) (λ us q. (cases_within ss here next n zs us count q).count) where
+      ∙ joins (length zs) (moved + raw_len (raws.Switch z zs)) (found_target (here + 1) (target_of ss here z)) (cases_of ss here next zs) (λ us q. (cases_within ss here next n zs us count q).count) where
         joins : (k end : ℕ) (one : Result ℕ Refusal) (more : Result (List ℕ) Refusal) → ((us : List ℕ) → more ≡ Ok us → length us ≡ k)
             → (one >>= λ t. more >>= λ ts. Ok ((((front ++ 0x1b ∷ []) ++ s24_bytes (offset ms moved t)) ++ number_bytes (k - 1)) ++ (each_case moved ts ++ rest)))
             ≡ ((one >>= λ d. more >>= λ ts. Ok (instrs.Switch d ts)) >>= λ i. Ok (front ++ (instr_bytes ms moved end i ++ rest)))

@@ -10,17 +10,17 @@ use Rattle.abc_file_types.specs.Code.{code, code_body}
 use Rattle.abc_file_types.specs.CodeBytes.{canonical_starts, code_bytes, instrs_bytes}
 use Rattle.abc_file_types.specs.Instructions.{RawInstr, code_length, pieces}
 use Rattle.abc_file_types.specs.Starts.{starts, size}
-use Rattle.abc_file_types.specs.Targets.{instrs_of, resolve}
+use Rattle.abc_file_types.specs.Targets.{instrs_of, resolve_targets}
 use Rattle.abc_file_types.proofs.Resolving.{length-starts}
 use Rattle.abc_varint.specs.declared.error.ReadError.{ReadError}
 use Rattle.abc_varint.specs.declared.error.ReadError.TheVariants as errors
-use Rattle.abc_varint.specs.Reads.{Fails}
+use Rattle.abc_varint.specs.Reads.{FailsReading}
 use Rattle.abc_instr.specs.declared.scan.Scan.{Scan}
 use Rattle.abc_instr.specs.declared.raw.RawInstr.{RawInstr as Raw}
 use Rattle.abc_instr.specs.Offsets.{raw_of, raws_len, raws_sized}
-use Rattle.abc_instr.specs.Resolving.{onto}
+use Rattle.abc_instr.specs.Resolving.{onto_found}
 use Rattle.abc_instr.specs.Marks.{mark_at, moved_at}
-use Rattle.abc_instr.specs.Scanning.{AreRead, IsWhole, instrs_in, raws_in, scan_bytes}
+use Rattle.abc_instr.specs.Scanning.{AreRead, IsWholeScan, instrs_in, raws_in, scan_bytes}
 use Rattle.abc_instr.proofs.Mending.{all_mended}
 use Rattle.abc_instr.proofs.Scanned.{alike, whole_len}
 
@@ -43,7 +43,7 @@ raws_size [] = refl
 raws_size (x ∷ xs) = ap (λ (n : ℕ). x.1 + n) (raws_size xs)
 
 -- the bytes of a scan, from its instructions
-scan_is : (n : ℕ) (xs : List (Raw × ℕ)) (scan : Scan) → IsWhole xs scan → AreRead n xs
+scan_is : (n : ℕ) (xs : List (Raw × ℕ)) (scan : Scan) → IsWholeScan xs scan → AreRead n xs
     → scan_bytes scan ≡ (instrs_of (starts 0 xs) 0 (raws_in xs) >>= λ js. Ok (number_bytes (raws_len (instrs_in xs)) ++ instrs_bytes (moved_starts xs) 0 js))
 scan_is n xs scan is read =
     let ss = starts 0 xs in
@@ -60,11 +60,11 @@ pub record IsPut (xs : List (Raw × ℕ)) (scan : Scan) (out new : List ℕ) : T
   pub bytes : new ≡ out ++ code_bytes instrs
   pub marks : mark_at scan.marks ≡ moved_at (starts 0 (raws_in xs)) (canonical_starts instrs)
 
-module _ (n : ℕ) (xs : List (Raw × ℕ)) (scan : Scan) (is : IsWhole xs scan) (read : AreRead n xs) (out : List ℕ) where
+module _ (n : ℕ) (xs : List (Raw × ℕ)) (scan : Scan) (is : IsWholeScan xs scan) (read : AreRead n xs) (out : List ℕ) where
   first : starts 0 xs ≡ starts 0 (raws_in xs)
   first = sym (raws_starts 0 xs)
 
-  found : (new : List ℕ) (r : Result (List Instr) Refusal) → instrs_of (starts 0 xs) 0 (raws_in xs) ≡ r → onto out (r >>= λ js. Ok (number_bytes (raws_len (instrs_in xs)) ++ instrs_bytes (moved_starts xs) 0 js)) ≡ Ok new → IsPut xs scan out new
+  found : (new : List ℕ) (r : Result (List Instr) Refusal) → instrs_of (starts 0 xs) 0 (raws_in xs) ≡ r → onto_found out (r >>= λ js. Ok (number_bytes (raws_len (instrs_in xs)) ++ instrs_bytes (moved_starts xs) 0 js)) ≡ Ok new → IsPut xs scan out new
   unfolding canonical_starts code_bytes
   found new (Ok js) e h =
       let count : length (starts 0 xs) ≡ suc (length xs) = length-starts 0 xs in
@@ -78,36 +78,36 @@ module _ (n : ℕ) (xs : List (Raw × ℕ)) (scan : Scan) (is : IsWhole xs scan)
       }
   found new (Err d) e h = absurd cc
 
-  missed : (d : Refusal) (r : Result (List Instr) Refusal) → instrs_of (starts 0 xs) 0 (raws_in xs) ≡ r → onto out (r >>= λ js. Ok (number_bytes (raws_len (instrs_in xs)) ++ instrs_bytes (moved_starts xs) 0 js)) ≡ Err d
+  missed : (d : Refusal) (r : Result (List Instr) Refusal) → instrs_of (starts 0 xs) 0 (raws_in xs) ≡ r → onto_found out (r >>= λ js. Ok (number_bytes (raws_len (instrs_in xs)) ++ instrs_bytes (moved_starts xs) 0 js)) ≡ Err d
       → instrs_of (starts 0 (raws_in xs)) 0 (raws_in xs) ≡ Err d
   missed d (Ok js) e h = absurd cc
   missed d (Err f) e h = let same : f ≡ d = cc in rw (← first) (e ∙ ap (λ (x : Refusal). Err x) same)
 
-  pub is_put : (new : List ℕ) → onto out (scan_bytes scan) ≡ Ok new → IsPut xs scan out new
-  is_put new h = found new (instrs_of (starts 0 xs) 0 (raws_in xs)) refl (ap (onto out) (sym (scan_is n xs scan is read)) ∙ h)
+  pub is_put : (new : List ℕ) → onto_found out (scan_bytes scan) ≡ Ok new → IsPut xs scan out new
+  is_put new h = found new (instrs_of (starts 0 xs) 0 (raws_in xs)) refl (ap (onto_found out) (sym (scan_is n xs scan is read)) ∙ h)
 
-  pub is_missed : (d : Refusal) → onto out (scan_bytes scan) ≡ Err d → instrs_of (starts 0 (raws_in xs)) 0 (raws_in xs) ≡ Err d
-  is_missed d h = missed d (instrs_of (starts 0 xs) 0 (raws_in xs)) refl (ap (onto out) (sym (scan_is n xs scan is read)) ∙ h)
+  pub is_missed : (d : Refusal) → onto_found out (scan_bytes scan) ≡ Err d → instrs_of (starts 0 (raws_in xs)) 0 (raws_in xs) ≡ Err d
+  is_missed d h = missed d (instrs_of (starts 0 xs) 0 (raws_in xs)) refl (ap (onto_found out) (sym (scan_is n xs scan is read)) ∙ h)
 
 -- ---- code
 
 pub code_found : (n : ℕ) (from a b : At) (xs : List (Raw × ℕ)) (js : List Instr) → code_length.reads from ≡ Ok (n, a) → (pieces n).reads a ≡ Ok (raws_in xs, b) → instrs_of (starts 0 (raws_in xs)) 0 (raws_in xs) ≡ Ok js
     → code.reads from ≡ Ok (record { instrs = js; offsets = starts 0 (raws_in xs) }, b)
-unfolding code code_body resolve
+unfolding code code_body resolve_targets
 code_found n from a b xs js e f g = rw (e, f, g) refl
 
 pub code_missed : (n : ℕ) (from a b : At) (xs : List (Raw × ℕ)) (d : Refusal) → code_length.reads from ≡ Ok (n, a) → (pieces n).reads a ≡ Ok (raws_in xs, b) → instrs_of (starts 0 (raws_in xs)) 0 (raws_in xs) ≡ Err d
     → code.reads from ≡ Err (refusal (a.place + d.place) d.reason)
-unfolding code code_body resolve
+unfolding code code_body resolve_targets
 code_missed n from a b xs d e f g = rw (e, f, g) refl
 
-pub length_fails : (e : ReadError) (from : At) → Fails e (code_length.reads from) → Fails e (code.reads from)
+pub length_fails : (e : ReadError) (from : At) → FailsReading e (code_length.reads from) → FailsReading e (code.reads from)
 unfolding code
 length_fails (errors.Refused place reason) from f = rw f refl
 length_fails errors.ReadFault from f = tt
 length_fails errors.NoMemory from f = tt
 
-pub pieces_fail : (e : ReadError) (n : ℕ) (from a : At) → code_length.reads from ≡ Ok (n, a) → Fails e ((pieces n).reads a) → Fails e (code.reads from)
+pub pieces_fail : (e : ReadError) (n : ℕ) (from a : At) → code_length.reads from ≡ Ok (n, a) → FailsReading e ((pieces n).reads a) → FailsReading e (code.reads from)
 unfolding code code_body
 pieces_fail (errors.Refused place reason) n from a g f = rw (g, f) refl
 pieces_fail errors.ReadFault n from a g f = tt

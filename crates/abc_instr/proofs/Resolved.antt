@@ -9,7 +9,7 @@ use Rattle.abc_file_types.specs.declared.code.Instr.{Instr}
 use Rattle.abc_file_types.specs.declared.code.Instr.TheVariants as instrs
 use Rattle.abc_file_types.specs.CodeBytes.{code_len, instr_len}
 use Rattle.abc_file_types.specs.Ready.{AllCanSpell, AllUpTo, CanSpell, IsReady}
-use Rattle.abc_file_types.specs.Targets.{at_start, cases_of, found, instr_of, instrs_of, target_of}
+use Rattle.abc_file_types.specs.Targets.{at_start, cases_of, found_target, instr_of, instrs_of, target_of}
 use Rattle.abc_instr.specs.declared.raw.RawInstr.{RawInstr as Raw}
 use Rattle.abc_instr.specs.declared.raw.RawInstr.TheVariants as raws
 use Rattle.abc_instr.specs.Offsets.{AreRaw, IsRaw, has_targets, raw_len, raw_of, raws_len}
@@ -21,11 +21,11 @@ at_start_within : (ss : List ℕ) (z : ℤ) (t : ℕ) → at_start ss z ≡ Some
 at_start_within ss (pos n) t e = (position-Some (λ s. nat_eq s n) ss t 0 e).0
 at_start_within ss (negsuc n) t e = absurd cc
 
-found_is : (place : ℕ) (o : Option ℕ) (t : ℕ) → found place o ≡ Ok t → o ≡ Some t
+found_is : (place : ℕ) (o : Option ℕ) (t : ℕ) → found_target place o ≡ Ok t → o ≡ Some t
 found_is place (Some u) t e = cc
 found_is place None t e = absurd cc
 
-target_within : (ss : List ℕ) (place base : ℕ) (z : ℤ) (n t : ℕ) → length ss ≡ suc n → found place (target_of ss base z) ≡ Ok t → t ≤ n
+target_within : (ss : List ℕ) (place base : ℕ) (z : ℤ) (n t : ℕ) → length ss ≡ suc n → found_target place (target_of ss base z) ≡ Ok t → t ≤ n
 target_within ss place base z n t count e = omega (arith, at_start_within ss _ t (found_is place (target_of ss base z) t e))
 
 pub record Within (n : ℕ) (zs : List ℤ) (ts : List ℕ) : Type 0 where
@@ -36,7 +36,7 @@ pub cases_within : (ss : List ℕ) (base next n : ℕ) (zs : List ℤ) (ts : Lis
 cases_within ss base next n [] ts count e = let same : [] ≡ ts = cc in subst (Within n []) same (record { count = refl; each = tt })
 cases_within ss base next n (z ∷ zs) ts count e =
     let place = next - 3 * suc (length zs) in
-    let a = bind_ok (found place (target_of ss base z)) (λ t. cases_of ss base next zs >>= λ us. Ok (t ∷ us)) ts e in
+    let a = bind_ok (found_target place (target_of ss base z)) (λ t. cases_of ss base next zs >>= λ us. Ok (t ∷ us)) ts e in
     let b = bind_ok (cases_of ss base next zs) (λ us. Ok (a.0 ∷ us)) ts a.2 in
     let rest = cases_within ss base next n zs b.0 count b.1 in
     let same : a.0 ∷ b.0 ≡ ts = let h = b.2 in cc in
@@ -66,11 +66,11 @@ instr_set ss here next n (raws.Same i) j count e raw =
     let same : i ≡ j = cc in
     subst (Set n (raws.Same i)) same (record { can = same_can n i raw.1 raw.0; len = refl })
 instr_set ss here next n (raws.Branch op z) j count e raw =
-    let a = bind_ok (found (here + 1) (target_of ss next z)) (λ u. Ok (instrs.Branch op u)) j e in
+    let a = bind_ok (found_target (here + 1) (target_of ss next z)) (λ u. Ok (instrs.Branch op u)) j e in
     let same : instrs.Branch op a.0 ≡ j = let h = a.2 in cc in
     subst (Set n (raws.Branch op z)) same (record { can = (raw.0, target_within ss (here + 1) next z n a.0 count a.1); len = refl })
 instr_set ss here next n (raws.Switch z zs) j count e raw =
-    let a = bind_ok (found (here + 1) (target_of ss here z)) (λ u. cases_of ss here next zs >>= λ us. Ok (instrs.Switch u us)) j e in
+    let a = bind_ok (found_target (here + 1) (target_of ss here z)) (λ u. cases_of ss here next zs >>= λ us. Ok (instrs.Switch u us)) j e in
     let b = bind_ok (cases_of ss here next zs) (λ us. Ok (instrs.Switch a.0 us)) j a.2 in
     let w = cases_within ss here next n zs b.0 count b.1 in
     let same : instrs.Switch a.0 b.0 ≡ j = let h = b.2 in cc in

@@ -9,20 +9,20 @@ use Rattle.std.proofs.lemmas.Bool.Decides.{eqb_tells}
 use Rattle.std.proofs.lemmas.List.{append-nil, drop-drop, map-append, take_all}
 use Rattle.std.proofs.lemmas.List.Concat.{flat_map-append}
 use Rattle.std.proofs.lemmas.List.Elements.{All-cons, All-nil}
-use Rattle.abc_file_types.specs.Ends.{blamed}
+use Rattle.abc_file_types.specs.Ends.{blame_first}
 use Rattle.abc_file_types.specs.Instructions.{RawInstr, instruction}
 use Rattle.abc_file_types.specs.Starts.{size}
 use Rattle.abc_file_types.proofs.CodeParts.{instruction-exact, instruction-some}
 use Rattle.abc_file_types.proofs.Resolving.{size-push}
-use Rattle.abc_varint.specs.Ready.{IsReady}
-use Rattle.abc_varint.specs.View.{View, held, onward}
+use Rattle.abc_varint.specs.Ready.{HoldsReady}
+use Rattle.abc_varint.specs.View.{View, held_bytes, onward}
 use Rattle.abc_varint.proofs.Fill.{Filling, fill_goes_on}
 use Rattle.abc_varint.proofs.Front.{front_taken}
 use Rattle.abc_varint.proofs.Inputs.{among}
 use Rattle.abc_instr.specs.declared.holes.Hole.{Hole}
 use Rattle.abc_instr.specs.declared.raw.RawInstr.{RawInstr as Raw}
 use Rattle.abc_instr.specs.declared.scan.Scan.{Scan}
-use Rattle.abc_instr.specs.Marks.{mark_at, marked}
+use Rattle.abc_instr.specs.Marks.{mark_at, with_mark}
 use Rattle.abc_instr.specs.Offsets.{AreRaw, raw_len, raw_of, raws_len}
 use Rattle.abc_instr.specs.Runs.{AreSpelled, IsCopied, IsPassed, IsSpelled, Runs, StepsOver, started}
 use Rattle.abc_instr.specs.Scanning.{IsScan, holes_from, holes_in, instrs_in, raw_bytes, raws_in, start_in}
@@ -101,7 +101,7 @@ pub run_starts : (bytes : List ℕ) (here moved : ℕ) (marks : ℕ → Option �
 run_starts bytes here moved marks holes = record { xs = []; spelled = tt; size = refl; shortest = refl; marked = λ p. refl; noted = sym (append-nil holes) }
 
 pub run_on : (bytes : List ℕ) (here moved : ℕ) (marks marks1 marks2 : ℕ → Option ℕ) (holes holes1 holes2 : List Hole) (n k : ℕ) (x : Raw) → Runs bytes here moved marks marks1 holes holes1 n
-    → IsCopied x k (drop n bytes) → ((p : ℕ) → marks2 p ≡ marked (here + n) (moved + n) marks1 p) → holes2 ≡ holes1 ++ holes_in x (here + n) (here + n + k) (moved + n)
+    → IsCopied x k (drop n bytes) → ((p : ℕ) → marks2 p ≡ with_mark (here + n) (moved + n) marks1 p) → holes2 ≡ holes1 ++ holes_in x (here + n) (here + n + k) (moved + n)
     → Runs bytes here moved marks marks2 holes holes2 (n + k)
 run_on bytes here moved marks marks1 marks2 holes holes1 holes2 n k x run one mark note =
     let xs = run.xs in
@@ -125,14 +125,14 @@ run_on bytes here moved marks marks1 marks2 holes holes1 holes2 n k x run one ma
           ∙ ap (λ (l : List Hole). holes ++ l) (sym more);
     } where
       by : (p : ℕ) → marks1 p ≡ started marks (start_in here moved run.xs p) p
-          → marked (here + n) (moved + n) marks1 p ≡ started marks (started (start_in here moved run.xs) (start_in (here + n) (moved + n) ((x, k) ∷ []) p) p) p
+          → with_mark (here + n) (moved + n) marks1 p ≡ started marks (started (start_in here moved run.xs) (start_in (here + n) (moved + n) ((x, k) ∷ []) p) p) p
       by p e = elim (eqb_tells p (here + n)) [
         | inl same ↦ rw same.0 refl
         | inr other ↦ rw other.0 e
       ]
 
 pub run_step : (bytes : List ℕ) (here moved : ℕ) (marks marks1 marks2 : ℕ → Option ℕ) (holes holes1 holes2 : List Hole) (at k most : ℕ) → Runs bytes here moved marks marks1 holes holes1 at
-    → StepsOver k (take (length bytes - at) (drop at bytes)) most (here + at) (moved + at) holes1 holes2 → ((p : ℕ) → marks2 p ≡ marked (here + at) (moved + at) marks1 p) → Runs bytes here moved marks marks2 holes holes2 (at + k)
+    → StepsOver k (take (length bytes - at) (drop at bytes)) most (here + at) (moved + at) holes1 holes2 → ((p : ℕ) → marks2 p ≡ with_mark (here + at) (moved + at) marks1 p) → Runs bytes here moved marks marks2 holes holes2 (at + k)
 run_step bytes here moved marks marks1 marks2 holes holes1 holes2 at k most run step mark =
     let all : take (length bytes - at) (drop at bytes) ≡ drop at bytes = take_all (length bytes - at) (drop at bytes) (omega (arith, length-drop at bytes)) in
     run_on bytes here moved marks marks1 marks2 holes holes1 holes2 at k step.instr run (subst (IsCopied step.instr k) all step.copied) mark step.noted
@@ -179,22 +179,22 @@ scan_run ys bytes here n old new some raw h is run code =
 
 -- ---- a run is read
 
-pub fill_run : (n i : ℕ) (items : List (RawInstr × ℕ)) (w0 : View) (s0 : Option (List ℕ)) (w : View) (s : Option (List ℕ)) (xs : List (Raw × ℕ)) → AreSpelled xs (held w) → IsReady (size xs) w → w.place + size xs ≤ w0.place + n
-    → Filling (blamed instruction) n i items w0 s0 w s → Filling (blamed instruction) n (i + length xs) (items ++ raws_in xs) w0 s0 (onward (size xs) w) s
+pub fill_run : (n i : ℕ) (items : List (RawInstr × ℕ)) (w0 : View) (s0 : Option (List ℕ)) (w : View) (s : Option (List ℕ)) (xs : List (Raw × ℕ)) → AreSpelled xs (held_bytes w) → HoldsReady (size xs) w → w.place + size xs ≤ w0.place + n
+    → Filling (blame_first instruction) n i items w0 s0 w s → Filling (blame_first instruction) n (i + length xs) (items ++ raws_in xs) w0 s0 (onward (size xs) w) s
 fill_run n i items w0 s0 w s [] are ready room g =
     let e : i + 0 ≡ i = omega arith in
     let f : w.place + 0 ≡ w.place = omega arith in
     rw (e, f, append-nil items) g
 fill_run n i items w0 s0 w s (x ∷ xs) are ready room g =
     let v = onward x.1 w in
-    let first : IsReady x.1 w = record { fresh = ready.fresh; held = are.0.within; before = omega (arith, ready.before); within = omega (arith, ready.within) } in
-    let read = front_taken (blamed instruction) (raw_of x.0) x.1 w v s instruction-exact (omega (arith, among w x.1 are.0.some are.0.within)) first are.0.spells refl in
+    let first : HoldsReady x.1 w = record { fresh = ready.fresh; held = are.0.within; before = omega (arith, ready.before); within = omega (arith, ready.within) } in
+    let read = front_taken (blame_first instruction) (raw_of x.0) x.1 w v s instruction-exact (omega (arith, among w x.1 are.0.some are.0.within)) first are.0.spells refl in
     let count : w.place + x.1 - w.place ≡ x.1 = omega arith in
-    let one = rw count at (fill_goes_on (blamed instruction) n i items w0 s0 w s v s (raw_of x.0) instruction-exact instruction-some (omega (arith, ready.within)) (omega (arith, g.room.1, are.0.some, room)) (omega (arith, are.0.some, room)) g read) in
-    let after : drop x.1 (held w) ≡ held v = drop-drop x.1 w.place w.taken in
-    let rest : IsReady (size xs) v = record {
+    let one = rw count at (fill_goes_on (blame_first instruction) n i items w0 s0 w s v s (raw_of x.0) instruction-exact instruction-some (omega (arith, ready.within)) (omega (arith, g.room.1, are.0.some, room)) (omega (arith, are.0.some, room)) g read) in
+    let after : drop x.1 (held_bytes w) ≡ held_bytes v = drop-drop x.1 w.place w.taken in
+    let rest : HoldsReady (size xs) v = record {
       fresh = ready.fresh;
-      held = omega (arith, ready.held, ap length after, length-drop x.1 (held w));
+      held = omega (arith, ready.held, ap length after, length-drop x.1 (held_bytes w));
       before = omega (arith, ready.before);
       within = omega (arith, ready.within);
     } in

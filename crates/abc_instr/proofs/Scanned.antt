@@ -15,7 +15,7 @@ use Rattle.abc_file_types.specs.declared.code.Instr.{Instr}
 use Rattle.abc_file_types.specs.declared.code.Instr.TheVariants as instrs
 use Rattle.abc_base.specs.Numbers.{number_bytes}
 use Rattle.abc_file_types.specs.Canonical.{s24_bytes}
-use Rattle.abc_file_types.specs.CodeBytes.{code_len, number_len, sized}
+use Rattle.abc_file_types.specs.CodeBytes.{code_len, number_len, with_lengths}
 use Rattle.abc_file_types.proofs.Canon.{s24_length}
 use Rattle.abc_file_types.specs.Starts.{starts, size}
 use Rattle.abc_file_types.specs.Targets.{instr_of, instrs_of}
@@ -24,8 +24,8 @@ use Rattle.abc_instr.specs.declared.scan.Scan.{Scan}
 use Rattle.abc_instr.specs.declared.raw.RawInstr.{RawInstr as Raw}
 use Rattle.abc_instr.specs.declared.raw.RawInstr.TheVariants as raws
 use Rattle.abc_instr.specs.Offsets.{has_targets, raw_len, raw_of, raws_len, raws_sized, AreRaw, IsRaw}
-use Rattle.abc_instr.specs.Marks.{mark_at, marked, moved_at}
-use Rattle.abc_instr.specs.Scanning.{Adds, AreRead, IsHole, IsScan, IsWhole, case_holes, holes_from, holes_in, instrs_in, raw_bytes, raws_in, start_in}
+use Rattle.abc_instr.specs.Marks.{mark_at, with_mark, moved_at}
+use Rattle.abc_instr.specs.Scanning.{AddsInstruction, AreRead, IsHole, IsScan, IsWholeScan, case_holes, holes_from, holes_in, instrs_in, raw_bytes, raws_in, start_in}
 use Rattle.abc_instr.proofs.Resolved.{instr_set}
 
 -- ---- one instruction
@@ -57,7 +57,7 @@ bytes_len (raws.Switch z zs) raw =
 -- ---- the marks
 
 -- one start more
-start_push : (h m : ℕ) (xs : List (Raw × ℕ)) (x : Raw × ℕ) (p : ℕ) → All (λ y. 0 < y.1) xs → start_in h m (xs ++ x ∷ []) p ≡ marked (h + size xs) (m + raws_len (instrs_in xs)) (start_in h m xs) p
+start_push : (h m : ℕ) (xs : List (Raw × ℕ)) (x : Raw × ℕ) (p : ℕ) → All (λ y. 0 < y.1) xs → start_in h m (xs ++ x ∷ []) p ≡ with_mark (h + size xs) (m + raws_len (instrs_in xs)) (start_in h m xs) p
 start_push h m [] x p some = let e : h + 0 ≡ h = omega arith in let f : m + 0 ≡ m = omega arith in rw (e, f) refl
 start_push h m (y ∷ xs) x p some =
     let first : 0 < y.1 = some 0 y (omega arith) in
@@ -93,7 +93,7 @@ eq_sym a b = elim (eqb_tells a b) [
 ]
 
 -- with the end they are all starts
-pub all_marked : (h m : ℕ) (xs : List (Raw × ℕ)) (p : ℕ) → All (λ y. 0 < y.1) xs → marked (h + size xs) (m + raws_len (instrs_in xs)) (start_in h m xs) p ≡ moved_at (starts h xs) (starts m (raws_sized (instrs_in xs))) p
+pub all_marked : (h m : ℕ) (xs : List (Raw × ℕ)) (p : ℕ) → All (λ y. 0 < y.1) xs → with_mark (h + size xs) (m + raws_len (instrs_in xs)) (start_in h m xs) p ≡ moved_at (starts h xs) (starts m (raws_sized (instrs_in xs))) p
 all_marked h m [] p some = let e : h + 0 ≡ h = omega arith in let f : m + 0 ≡ m = omega arith in rw (e, f) (rw (eq_sym p h) (sym (moved_first h m [] [] p)))
 all_marked h m (y ∷ xs) p some =
     let first : 0 < y.1 = some 0 y (omega arith) in
@@ -135,8 +135,8 @@ holes_push h m (y ∷ xs) x =
 
 -- An instruction x of n bytes came to the scan of some others, whose end was marked before.
 pub scan_push : (xs : List (Raw × ℕ)) (x : Raw) (n here : ℕ) (old mid new : Scan) → All (λ y. 0 < y.1) xs → AreRaw (instrs_in xs) → here ≡ size xs → IsScan xs old
-    → ((p : ℕ) → mark_at mid.marks p ≡ marked here (length old.code.items) (mark_at old.marks) p) → mid.code.items ≡ old.code.items → mid.holes.items ≡ old.holes.items
-    → Adds x n here mid new → IsScan (xs ++ (x, n) ∷ []) new
+    → ((p : ℕ) → mark_at mid.marks p ≡ with_mark here (length old.code.items) (mark_at old.marks) p) → mid.code.items ≡ old.code.items → mid.holes.items ≡ old.holes.items
+    → AddsInstruction x n here mid new → IsScan (xs ++ (x, n) ∷ []) new
 scan_push xs x n here old mid new some raw h is marks code holes adds =
     let all : instrs_in (xs ++ (x, n) ∷ []) ≡ instrs_in xs ++ x ∷ [] = map-append (λ (y : Raw × ℕ). y.0) xs ((x, n) ∷ []) in
     let bytes : bytes_in (xs ++ (x, n) ∷ []) ≡ bytes_in xs ++ raw_bytes x = ap (flat_map raw_bytes) all ∙ flat_map-append raw_bytes (instrs_in xs) (x ∷ []) ∙ ap (λ (l : List ℕ). bytes_in xs ++ l) (append-nil (raw_bytes x)) in
@@ -149,7 +149,7 @@ scan_push xs x n here old mid new some raw h is marks code holes adds =
 
 -- Once the end is marked, the scan is whole.
 pub scan_whole : (xs : List (Raw × ℕ)) (here : ℕ) (old new : Scan) → All (λ y. 0 < y.1) xs → AreRaw (instrs_in xs) → here ≡ size xs → IsScan xs old
-    → ((p : ℕ) → mark_at new.marks p ≡ marked here (length old.code.items) (mark_at old.marks) p) → new.code.items ≡ old.code.items → new.holes.items ≡ old.holes.items → IsWhole xs new
+    → ((p : ℕ) → mark_at new.marks p ≡ with_mark here (length old.code.items) (mark_at old.marks) p) → new.code.items ≡ old.code.items → new.holes.items ≡ old.holes.items → IsWholeScan xs new
 scan_whole xs here old new some raw h is marks code holes = let len = code_len_is xs old raw is in record {
   marks = fun_ext (λ p. marks p ∙ rw (len, is.marks p, h) (simp zero-add at (all_marked 0 0 xs p some)));
   code = code ∙ is.code;
@@ -176,10 +176,10 @@ holes_ok n (x ∷ xs) h m near within small =
     All-append (IsHole n) (holes_in x.0 h (h + x.1) m) (holes_from (h + x.1) (m + raw_len x.0) xs)
     (holes_in_ok n x.0 h (h + x.1) m (omega arith) (omega arith) (omega arith) small) (holes_ok n xs (h + x.1) (m + raw_len x.0) (omega arith) (omega arith) small)
 
-pub whole_len : (xs : List (Raw × ℕ)) (scan : Scan) → AreRaw (instrs_in xs) → IsWhole xs scan → length scan.code.items ≡ raws_len (instrs_in xs)
+pub whole_len : (xs : List (Raw × ℕ)) (scan : Scan) → AreRaw (instrs_in xs) → IsWholeScan xs scan → length scan.code.items ≡ raws_len (instrs_in xs)
 whole_len xs scan raw is = ap length is.code ∙ all_bytes_len xs raw
 
-pub holes_are : (n : ℕ) (xs : List (Raw × ℕ)) (scan : Scan) → n < 2 ^ 23 → IsWhole xs scan → AreRead n xs → All (IsHole (length scan.code.items)) scan.holes.items
+pub holes_are : (n : ℕ) (xs : List (Raw × ℕ)) (scan : Scan) → n < 2 ^ 23 → IsWholeScan xs scan → AreRead n xs → All (IsHole (length scan.code.items)) scan.holes.items
 holes_are n xs scan small is read =
     let len = whole_len xs scan read.raw is in
     rw (is.holes, len) (holes_ok (raws_len (instrs_in xs)) xs 0 0 (omega (arith, read.size)) (omega arith) (omega (arith, read.few)))
@@ -187,7 +187,7 @@ holes_are n xs scan small is read =
 -- The instructions with their targets are as long as they were.
 pub record AreAlike (is : List Raw) (js : List Instr) : Type 0 where
   pub len : code_len js ≡ raws_len is
-  pub starts_are : (at : ℕ) → starts at (sized js) ≡ starts at (raws_sized is)
+  pub starts_are : (at : ℕ) → starts at (with_lengths js) ≡ starts at (raws_sized is)
 
 pub alike : (ss : List ℕ) (here n : ℕ) (xs : List (Raw × ℕ)) (js : List Instr) → length ss ≡ suc n → instrs_of ss here (raws_in xs) ≡ Ok js → AreRaw (instrs_in xs) → AreAlike (instrs_in xs) js
 alike ss here n [] js count e raw = let same : [] ≡ js = cc in subst (AreAlike []) same (record { len = refl; starts_are = λ at. refl })

@@ -15,7 +15,7 @@ use Rattle.abc_file_types.specs.declared.code.Instr.{Instr}
 use Rattle.abc_file_types.specs.declared.code.Instr.TheVariants as instrs
 use Rattle.abc_file_types.specs.declared.opcodes.Form.{Form}
 use Rattle.abc_file_types.specs.declared.opcodes.Form.TheVariants as forms
-use Rattle.abc_file_types.specs.Instructions.{Branch, Same, operands, signed_byte, signed_short}
+use Rattle.abc_file_types.specs.Instructions.{Branch, Same, operand_parts, signed_byte, signed_short}
 use Rattle.abc_file_types.specs.Opcodes.{form_at, info_at}
 use Rattle.abc_file_types.proofs.CodeShortest.{piece_can}
 use Rattle.abc_varint.proofs.Putting.{bytes_1, bytes_2}
@@ -94,7 +94,7 @@ of_two a b n e low high some lt =
 
 -- ---- an instruction without targets, by its form
 
-passed : (op : ℕ) (form : Form) (i : Instr) (b rest : List ℕ) → form_at op ≡ Some form → has_targets i ≡ false → (operands op form).spells (Same i) b → op ∷ b ≡ raw_bytes (raws.Same i)
+passed : (op : ℕ) (form : Form) (i : Instr) (b rest : List ℕ) → form_at op ≡ Some form → has_targets i ≡ false → (operand_parts op form).spells (Same i) b → op ∷ b ≡ raw_bytes (raws.Same i)
     → IsPassed (1 + length b) (op ∷ (b ++ rest))
 passed op form i b rest e none s bytes =
     let front : take (1 + length b) (op ∷ (b ++ rest)) ≡ op ∷ b = taken_one (length b) op (b ++ rest) ∙ ap (λ (l : List ℕ). op ∷ l) (take-append_seam b rest) in

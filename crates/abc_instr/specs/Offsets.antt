@@ -56,6 +56,6 @@ AreRaw [] = Unit {0}
 AreRaw (i ∷ is) = IsRaw i × AreRaw is
 
 -- a result whose value is seen as another
-abbrev pub seen : {A B E : Type 0} → (A → B) → Result A E → Result B E
-seen f (Ok x) = Ok (f x)
-seen f (Err e) = Err e
+abbrev pub map_value : {A B E : Type 0} → (A → B) → Result A E → Result B E
+map_value f (Ok x) = Ok (f x)
+map_value f (Err e) = Err e

@@ -3,7 +3,7 @@ use Rattle.std.specs.Prelude.{◌≡◌, ℕ, ◌+◌, ◌-◌, List, [], ◌∷
 use Rattle.std.specs.List.{flat_map}
 use Rattle.abc_file_types.specs.declared.code.Instr.{Instr}
 use Rattle.abc_file_types.specs.declared.code.Instr.TheVariants as instrs
-use Rattle.abc_file_types.specs.CodeBytes.{canonical_starts, code_len, instr_bytes, sized}
+use Rattle.abc_file_types.specs.CodeBytes.{canonical_starts, code_len, instr_bytes, with_lengths}
 use Rattle.abc_file_types.specs.Starts.{starts as starts_from}
 use Rattle.abc_instr.specs.declared.pieces.Gap.{Gap}
 use Rattle.abc_instr.specs.declared.pieces.Pieces.{Pieces}
@@ -52,7 +52,7 @@ gaps_from before index (i ∷ is) = gaps_in i before index ++ gaps_from (before 
 pub record SoFar (code : List Instr) (i here : ℕ) (p : Pieces) : Type 0 where
   pub plain : p.plain.items ++ flat_map free_bytes (drop i code) ≡ flat_map free_bytes code
   pub gaps : p.gaps.items ++ gaps_from (length p.plain.items) i (drop i code) ≡ gaps_from 0 0 code
-  pub starts : p.starts ++ starts_from here (sized (drop i code)) ≡ starts_from 0 (sized code)
+  pub starts : p.starts ++ starts_from here (with_lengths (drop i code)) ≡ starts_from 0 (with_lengths code)
   pub len : here + code_len (drop i code) ≡ code_len code
 
 -- The code was taken in pieces.
@@ -66,6 +66,6 @@ abbrev pub gap_bytes : List ℕ → List Instr → Gap → List ℕ
 gap_bytes ss code g = aimed_bytes ss (get_or ss g.index 0) (get_or ss (g.index + 1) 0) (get_or code g.index (instrs.Plain 0))
 
 -- the bytes from a position of `plain` on, with the instructions of the gaps between them
-abbrev pub filled : List ℕ → List Instr → List ℕ → ℕ → List Gap → List ℕ
-filled ss code plain from [] = drop from plain
-filled ss code plain from (g ∷ gs) = take (g.before - from) (drop from plain) ++ (gap_bytes ss code g ++ filled ss code plain g.before gs)
+abbrev pub with_gaps : List ℕ → List Instr → List ℕ → ℕ → List Gap → List ℕ
+with_gaps ss code plain from [] = drop from plain
+with_gaps ss code plain from (g ∷ gs) = take (g.before - from) (drop from plain) ++ (gap_bytes ss code g ++ with_gaps ss code plain g.before gs)

@@ -26,16 +26,16 @@ done_in (raws.Branch op z) = []
 done_in (raws.Switch z zs) = []
 
 -- the instruction as it was read, where its offsets stand in the place of its targets
-abbrev pub spelled : Instr → RawInstr
-spelled (instrs.Plain op) = Same (instrs.Plain op)
-spelled (instrs.One op n) = Same (instrs.One op n)
-spelled (instrs.Two op n m) = Same (instrs.Two op n m)
-spelled (instrs.Branch op n) = Branch op (cast_signed w32 n)
-spelled (instrs.Switch n ns) = Switch (cast_signed w32 n) (map (cast_signed w32) ns)
-spelled (instrs.Byte z) = Same (instrs.Byte z)
-spelled (instrs.Short z) = Same (instrs.Short z)
-spelled (instrs.ScopeObject x) = Same (instrs.ScopeObject x)
-spelled (instrs.Debug kind name reg extra) = Same (instrs.Debug kind name reg extra)
+abbrev pub raw_instr : Instr → RawInstr
+raw_instr (instrs.Plain op) = Same (instrs.Plain op)
+raw_instr (instrs.One op n) = Same (instrs.One op n)
+raw_instr (instrs.Two op n m) = Same (instrs.Two op n m)
+raw_instr (instrs.Branch op n) = Branch op (cast_signed w32 n)
+raw_instr (instrs.Switch n ns) = Switch (cast_signed w32 n) (map (cast_signed w32) ns)
+raw_instr (instrs.Byte z) = Same (instrs.Byte z)
+raw_instr (instrs.Short z) = Same (instrs.Short z)
+raw_instr (instrs.ScopeObject x) = Same (instrs.ScopeObject x)
+raw_instr (instrs.Debug kind name reg extra) = Same (instrs.Debug kind name reg extra)
 
 -- at most one that waits
 abbrev pub aims_in : Option Raw → ℕ → List ℕ
@@ -54,25 +54,25 @@ abbrev pub starts_before : ℕ → List (Raw × ℕ) → List ℕ
 starts_before here [] = []
 starts_before here (x ∷ xs) = here ∷ starts_before (here + x.1) xs
 
-abbrev pub raws_of : List (Raw × ℕ) → List RawInstr
-raws_of xs = map (λ x. raw_of x.0) xs
+abbrev pub raws_in_pieces : List (Raw × ℕ) → List RawInstr
+raws_in_pieces xs = map (λ x. raw_of x.0) xs
 
 -- These instructions were read so far.
 pub record IsReading (xs : List (Raw × ℕ)) (r : Reading) : Type 0 where
   pub starts : r.starts ≡ starts_before 0 xs
-  pub instrs : map spelled r.instrs ≡ raws_of xs
+  pub instrs : map raw_instr r.instrs ≡ raws_in_pieces xs
   pub aims : r.aims.items ≡ aims_from 0 xs
 
 -- These instructions were read, and no others.
-pub record IsRead (xs : List (Raw × ℕ)) (r : Reading) : Type 0 where
+pub record AreInstructionsRead (xs : List (Raw × ℕ)) (r : Reading) : Type 0 where
   pub starts : r.starts ≡ starts_from 0 xs
-  pub instrs : map spelled r.instrs ≡ raws_of xs
+  pub instrs : map raw_instr r.instrs ≡ raws_in_pieces xs
   pub aims : r.aims.items ≡ aims_from 0 xs
 
 -- An instruction came to the others.
 pub record Takes (x : Raw) (old new : Reading) : Type 0 where
   pub instr : Instr
-  pub is : spelled instr ≡ raw_of x
+  pub is : raw_instr instr ≡ raw_of x
   pub instrs : new.instrs ≡ old.instrs ++ instr ∷ []
   pub aims : new.aims.items ≡ old.aims.items ++ aims_in (jump_in x) (length old.instrs)
   pub starts : new.starts ≡ old.starts
@@ -94,9 +94,9 @@ TakesInstrOn says w w2 old new (Err e) = says (Err e)
 -- ---- targets
 
 -- each of those that wait gets its targets, in their order
-abbrev pub aimed : List ℕ → List ℕ → List Instr → Result (List Instr) Refusal
-aimed ss [] is = Ok is
-aimed ss (a ∷ more) is = instr_of ss (get_or ss a 0) (get_or ss (a + 1) 0) (spelled (get_or is a (instrs.Plain 0))) >>= λ i. aimed ss more (set is a i)
+abbrev pub with_targets : List ℕ → List ℕ → List Instr → Result (List Instr) Refusal
+with_targets ss [] is = Ok is
+with_targets ss (a ∷ more) is = instr_of ss (get_or ss a 0) (get_or ss (a + 1) 0) (raw_instr (get_or is a (instrs.Plain 0))) >>= λ i. with_targets ss more (set is a i)
 
 -- They are the starts of n instructions and their end, and small, as places in code are.
 pub record AreSmallStarts (n : ℕ) (ss : List ℕ) : Type 0 where

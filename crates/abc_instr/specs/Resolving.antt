@@ -13,5 +13,5 @@ Resolves spec (Err (missed.Target place)) = spec ≡ Err (refusal place reasons.
 Resolves spec (Err missed.NoMemory) = Unit {0}
 
 -- what was found before, and what is still to be found
-abbrev pub onto : {A : Type 0} → List A → Result (List A) Refusal → Result (List A) Refusal
-onto front read = read >>= λ xs. Ok (front ++ xs)
+abbrev pub onto_found : {A : Type 0} → List A → Result (List A) Refusal → Result (List A) Refusal
+onto_found front read = read >>= λ xs. Ok (front ++ xs)

@@ -7,8 +7,8 @@ use Rattle.abc_file_types.specs.declared.opcodes.Form.TheVariants as forms
 use Rattle.abc_file_types.specs.Instructions.{instruction}
 use Rattle.abc_file_types.specs.Opcodes.{form_at}
 use Rattle.abc_file_types.specs.Starts.{size as size_of}
-use Rattle.abc_varint.specs.Ready.{IsReady}
-use Rattle.abc_varint.specs.View.{View, held, onward}
+use Rattle.abc_varint.specs.Ready.{HoldsReady}
+use Rattle.abc_varint.specs.View.{View, held_bytes, onward}
 use Rattle.abc_instr.specs.declared.holes.Hole.{Hole}
 use Rattle.abc_instr.specs.declared.raw.RawInstr.{RawInstr as Raw}
 use Rattle.abc_instr.specs.declared.run.Step.{Step}
@@ -85,7 +85,7 @@ pub record Runs (bytes : List ℕ) (here moved : ℕ) (marks marks2 : ℕ → Op
 -- Instructions from `here` on came to the scan, as they stand among the bytes at hand, and the window went on past them.
 pub record ScansRun (here : ℕ) (w w2 : View) (old new : Scan) : Type 0 where
   pub count : ℕ
-  pub ready : 0 < count → IsReady count w
+  pub ready : 0 < count → HoldsReady count w
   pub is : w2 ≡ onward count w
-  pub run : Runs (held w) here (length old.code.items) (mark_at old.marks) (mark_at new.marks) old.holes.items new.holes.items count
-  pub code : new.code.items ≡ old.code.items ++ take count (held w)
+  pub run : Runs (held_bytes w) here (length old.code.items) (mark_at old.marks) (mark_at new.marks) old.holes.items new.holes.items count
+  pub code : new.code.items ≡ old.code.items ++ take count (held_bytes w)

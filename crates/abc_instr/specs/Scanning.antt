@@ -9,7 +9,7 @@ use Rattle.abc_file_types.specs.Part.{Refusal, limit, ◌>>=◌}
 use Rattle.abc_file_types.specs.CodeBytes.{instr_bytes, number_len}
 use Rattle.abc_file_types.specs.Instructions.{RawInstr}
 use Rattle.abc_file_types.specs.Starts.{starts as starts_from, size as size_of}
-use Rattle.abc_file_types.specs.Targets.{found}
+use Rattle.abc_file_types.specs.Targets.{found_target}
 use Rattle.abc_instr.specs.declared.holes.Hole.{Hole}
 use Rattle.abc_instr.specs.declared.scan.Scan.{Scan}
 use Rattle.abc_varint.specs.View.{GoesOver, View}
@@ -74,7 +74,7 @@ pub record IsScan (xs : List (Raw × ℕ)) (scan : Scan) : Type 0 where
   pub holes : scan.holes.items ≡ holes_from 0 0 xs
 
 -- The scan is of these instructions, and of no others.
-pub record IsWhole (xs : List (Raw × ℕ)) (scan : Scan) : Type 0 where
+pub record IsWholeScan (xs : List (Raw × ℕ)) (scan : Scan) : Type 0 where
   pub marks : mark_at scan.marks ≡ moved_at (starts_from 0 xs) (starts_from 0 (raws_sized (instrs_in xs)))
   pub code : scan.code.items ≡ flat_map raw_bytes (instrs_in xs)
   pub holes : scan.holes.items ≡ holes_from 0 0 xs
@@ -87,7 +87,7 @@ pub record AreRead (n : ℕ) (xs : List (Raw × ℕ)) : Type 0 where
   pub few : raws_len (instrs_in xs) ≤ n
 
 -- An instruction of n bytes, from here on, came to the scan.
-pub record Adds (x : Raw) (n here : ℕ) (old new : Scan) : Type 0 where
+pub record AddsInstruction (x : Raw) (n here : ℕ) (old new : Scan) : Type 0 where
   pub code : new.code.items ≡ old.code.items ++ raw_bytes x
   pub holes : new.holes.items ≡ old.holes.items ++ holes_in x here (here + n) (length old.code.items)
   pub marks : new.marks ≡ old.marks
@@ -99,7 +99,7 @@ pub record ScansInstr {E : Type 0} (says : Result RawInstr E → Type 0) (first 
   pub passes : GoesOver (raw_len instr) w w2
   pub room : w2.place ≤ limit
   pub raw : IsRaw instr
-  pub adds : Adds instr (w2.place - w.place) (w.place - first) old new
+  pub adds : AddsInstruction instr (w2.place - w.place) (w.place - first) old new
   pub says_so : says (Ok (raw_of instr))
 
 abbrev pub ScansInstrOn : {T E : Type 0} → (Result RawInstr E → Type 0) → ℕ → View → View → Scan → Scan → Result T E → Type 0
@@ -113,19 +113,19 @@ ScansOn says n w w2 scan (Err e) = says (Err e)
 
 -- what a scan of n bytes leaves, where `says` tells what was read
 abbrev pub Scans : {T E : Type 0} → (Result (List (RawInstr × ℕ)) E → Type 0) → ℕ → Scan → Result T E → Type 0
-Scans says n scan (Ok t) = (xs : List (Raw × ℕ)) × IsWhole xs scan × AreRead n xs × says (Ok (raws_in xs))
+Scans says n scan (Ok t) = (xs : List (Raw × ℕ)) × IsWholeScan xs scan × AreRead n xs × says (Ok (raws_in xs))
 Scans says n scan (Err e) = says (Err e)
 
 -- ---- bytes from a scan
 
 -- where a place is moved; there is none before the code
-abbrev pub leads : (ℕ → Option ℕ) → ℤ → Option ℕ
-leads marks (pos p) = marks p
-leads marks (negsuc p) = None
+abbrev pub target_moved : (ℕ → Option ℕ) → ℤ → Option ℕ
+target_moved marks (pos p) = marks p
+target_moved marks (negsuc p) = None
 
 -- the offset from a moved base to where a target is moved, that stood at this place as an offset from a base
 abbrev pub target_bytes : (ℕ → Option ℕ) → ℕ → ℕ → ℕ → ℤ → Result (List ℕ) Refusal
-target_bytes marks place base moved z = found place (leads marks (pos base +ℤ z)) >>= λ m. Ok (s24_bytes (pos m -ℤ pos moved))
+target_bytes marks place base moved z = found_target place (target_moved marks (pos base +ℤ z)) >>= λ m. Ok (s24_bytes (pos m -ℤ pos moved))
 
 -- the code with each offset mended, or the first that leads nowhere
 abbrev pub mended : (ℕ → Option ℕ) → List ℕ → List Hole → Result (List ℕ) Refusal

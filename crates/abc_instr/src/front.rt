@@ -1,7 +1,7 @@
 ghost use Rattle.std.specs.Prelude.{◌≡◌, ◌≤◌, ℕ, List, None, Some, IfOk, OnErr, get_or, length};
 ghost use Rattle.abc_file_types.specs.Opcodes.{form_at};
 ghost use Rattle.abc_file_types.specs.declared.code.Instr.{Instr};
-ghost use Rattle.abc_instr.specs.Fronts.{IsFront, PutsFront, TakesFront, count_of};
+ghost use Rattle.abc_instr.specs.Fronts.{IsInstructionFront, PutsFront, TakesFront, front_length};
 ghost use Rattle.abc_instr.specs.Reading.{done_in};
 ghost use Rattle.abc_instr.specs.Scanning.{plain_bytes};
 
@@ -26,7 +26,7 @@ impl Front {
     /// How many bytes spell it.
     #[inline(always)]
     pub fn count(self) -> usize
-        ensures { result ≡ count_of self }
+        ensures { result ≡ front_length self }
     {
         match self {
             Front::Put(count) => count,
@@ -104,8 +104,8 @@ fn put_byte_front(bytes: &[u8], plain: &mut Vec<u8>) -> Result<Option<Front>, No
 pub fn branch_front(bytes: &[u8]) -> Front
     requires room { 11 ≤ length bytes.now }
     requires form { form_at (get_or bytes.now 0 0) ≡ Some Form.Branch }
-    ensures put { (old : List ℕ) → IsFront plain_bytes result bytes.now old old }
-    ensures done { (old : List Instr) → IsFront done_in result bytes.now old old }
+    ensures put { (old : List ℕ) → IsInstructionFront plain_bytes result bytes.now old old }
+    ensures done { (old : List Instr) → IsInstructionFront done_in result bytes.now old old }
 {
     Front::Branch(bytes[0], front_s24(&bytes[1..]))
 }

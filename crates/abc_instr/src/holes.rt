@@ -2,11 +2,11 @@
 ghost use Rattle.std.specs.Prelude.{◌≡◌, ◌≤◌, ◌<◌, ◌+◌, ◌^◌, ◌+ℤ◌, pos, All, IfOk, length};
 ghost use Rattle.std.specs.List.{splice};
 ghost use Rattle.abc_file_types.specs.Canonical.{FitsS24, low24, s24_bytes};
-ghost use Rattle.abc_file_types.specs.Targets.{found};
-ghost use Rattle.abc_varint.specs.Reads.{stored};
+ghost use Rattle.abc_file_types.specs.Targets.{found_target};
+ghost use Rattle.abc_varint.specs.Reads.{stored_value};
 ghost use Rattle.abc_instr.specs.Marks.{mark_at};
 ghost use Rattle.abc_instr.specs.Resolving.{Resolves};
-ghost use Rattle.abc_instr.specs.Scanning.{IsHole, leads, mended};
+ghost use Rattle.abc_instr.specs.Scanning.{IsHole, target_moved, mended};
 
 use crate::marks::Marks;
 use crate::resolve::Missed;
@@ -28,7 +28,8 @@ pub struct Hole {
 #[inline(always)]
 fn start_of(marks: &Marks, hole: &Hole) -> Result<u32, Missed>
     requires { hole.now.base ≤ 2 ^ 24 }
-    ensures is { Resolves (found hole.now.place (leads (mark_at marks.now) (pos hole.now.base +ℤ hole.now.offset))) result }
+    ensures is { Resolves (found_target hole.now.place
+        (target_moved (mark_at marks.now) (pos hole.now.base +ℤ hole.now.offset))) result }
     ensures bound { IfOk result (λ start. start < 2 ^ 23) }
 {
     let target = hole.base as i64 + hole.offset as i64;
@@ -73,7 +74,7 @@ fn overwrite(code: &mut [u8], at: usize, offset: i32)
 /// Makes the offsets those of the canonical code, or gives the place of the first that leads nowhere.
 pub(crate) fn mend(code: &mut [u8], holes: &[Hole], marks: &Marks) -> Result<(), Missed>
     requires { All (IsHole (length code.old)) holes.now }
-    ensures { Resolves (mended (mark_at marks.now) code.old holes.now) (stored result code.new) }
+    ensures { Resolves (mended (mark_at marks.now) code.old holes.now) (stored_value result code.new) }
 {
     for hole in holes {
         let start = start_of(marks, hole)?;

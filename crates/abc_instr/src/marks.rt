@@ -1,5 +1,5 @@
 ghost use Rattle.std.specs.Prelude.{◌≡◌, ◌<◌, ◌^◌, ◌≤◌, ℕ, None, OnOk, IfSome, length};
-ghost use Rattle.abc_instr.specs.Marks.{mark_at, marked};
+ghost use Rattle.abc_instr.specs.Marks.{mark_at, with_mark};
 
 use abc_base::NoMemory;
 use std::alloc::Global;
@@ -92,7 +92,7 @@ impl Marks {
     #[tactic(auto, using(crate::proofs::Marking::one_more, crate::proofs::Marking::stays_small))]
     pub(crate) fn set(&mut self, place: u32, moved: u32) -> Result<(), NoMemory>
         requires { moved < 2 ^ 23 }
-        ensures { OnOk result ((p : ℕ) → mark_at self.new p ≡ marked place moved (mark_at self.old) p) }
+        ensures { OnOk result ((p : ℕ) → mark_at self.new p ≡ with_mark place moved (mark_at self.old) p) }
     {
         let place = place as usize;
         if place >= self.table.len() {
@@ -108,7 +108,7 @@ impl Marks {
     pub(crate) fn put(&mut self, place: usize, moved: u32)
         requires place { place < length self.old }
         requires moved { moved < 2 ^ 23 }
-        ensures marks { (p : ℕ) → mark_at self.new p ≡ marked place moved (mark_at self.old) p }
+        ensures marks { (p : ℕ) → mark_at self.new p ≡ with_mark place moved (mark_at self.old) p }
         ensures long { length self.new ≡ length self.old }
     {
         self.table[place] = moved;

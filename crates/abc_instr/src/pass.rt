@@ -2,7 +2,7 @@ ghost use Rattle.std.specs.Prelude.{◌≡◌, ◌≤◌, ◌<◌, ◌^◌, ◌+
 ghost use Rattle.abc_file_types.specs.Code.{code as code_part};
 ghost use Rattle.abc_file_types.specs.CodeBytes.{code_bytes};
 ghost use Rattle.abc_varint.specs.Passes.{Passes, PassesPart};
-ghost use Rattle.abc_varint.specs.Reads.{Reads, ReadsPart, stored};
+ghost use Rattle.abc_varint.specs.Reads.{Reads, ReadsPart, stored_value};
 ghost use Rattle.abc_instr.specs.Marks.{mark_at, moved_in};
 
 use crate::read::read_length;
@@ -23,7 +23,8 @@ pub fn pass_code<S: Source>(
     scan: &mut Scan,
     out: &mut Vec<u8>,
 ) -> Result<(), ReadError>
-    ensures { PassesPart S.left S.faults code_part (λ c. code_bytes c.instrs) moved_in w.old source.old w.new source.new out.old.items out.new.items (stored result (mark_at (scan.new).marks)) }
+    ensures { PassesPart S.left S.faults code_part (λ c. code_bytes c.instrs) moved_in w.old source.old w.new
+        source.new out.old.items out.new.items (stored_value result (mark_at (scan.new).marks)) }
 {
     let length = read_length(w, source)?;
     let first = w.place();

@@ -1,7 +1,7 @@
 //! Code on its way to its bytes: those of the instructions without targets, and where those with some stand among them.
 ghost use Rattle.std.specs.Prelude.{◌≡◌, ◌<◌, ◌+◌, ◌^◌, ◌++◌, ◌∷◌, [], All, List, ℕ, length, take, drop, ◌-◌, IfOk, OnOk, OnErr};
 ghost use Rattle.abc_instr.specs.Offsets.{has_targets as has_some};
-ghost use Rattle.abc_instr.specs.Pieces.{ArePieces, filled, free_bytes, gap_bytes, gaps_in};
+ghost use Rattle.abc_instr.specs.Pieces.{ArePieces, with_gaps, free_bytes, gap_bytes, gaps_in};
 ghost use Rattle.abc_file_types.specs.Code.{code_listing};
 ghost use Rattle.abc_file_types.specs.CodeBytes.{canonical_starts, code_bytes, instr_len as len_of};
 ghost use Rattle.abc_file_types.specs.Ready.{IsReady};
@@ -58,7 +58,9 @@ impl Pieces {
     /// Notes an instruction with targets.
     fn note(&mut self, index: usize) -> Result<(), NoMemory>
         ensures plain { (self.new).plain.items ≡ (self.old).plain.items }
-        ensures gaps { OnOk result ((self.new).gaps.items ≡ (self.old).gaps.items ++ record { before = length (self.old).plain.items; index = index } ∷ []) }
+        ensures gaps { OnOk result ((self.new).gaps.items
+            ≡ (self.old).gaps.items
+            ++ record { before = length (self.old).plain.items; index = index } ∷ []) }
         ensures starts { (self.new).starts ≡ (self.old).starts }
     {
         let before = self.plain.len();
@@ -72,8 +74,10 @@ impl Pieces {
     fn add(&mut self, instr: &Instr, index: usize, here: u32) -> Result<u32, NoMemory>
         requires { here + len_of instr.now < 2 ^ 32 }
         ensures end { IfOk result (λ n. n ≡ here + len_of instr.now) }
-        ensures plain { OnOk result ((self.new).plain.items ≡ (self.old).plain.items ++ free_bytes instr.now) }
-        ensures gaps { OnOk result ((self.new).gaps.items ≡ (self.old).gaps.items ++ gaps_in instr.now (length (self.old).plain.items) index) }
+        ensures plain { OnOk result
+            ((self.new).plain.items ≡ (self.old).plain.items ++ free_bytes instr.now) }
+        ensures gaps { OnOk result ((self.new).gaps.items
+            ≡ (self.old).gaps.items ++ gaps_in instr.now (length (self.old).plain.items) index) }
         ensures starts { OnOk result ((self.new).starts ≡ (self.old).starts ++ here ∷ []) }
     {
         self.starts.push(here)?;
@@ -142,7 +146,7 @@ fn put_filled(
     requires ready { IsReady code.now }
     requires starts { starts.now ≡ canonical_starts code.now }
     requires within { All (λ g. g.index < length code.now) gaps.now }
-    ensures { Puts out.old.items out.new.items result (filled starts.now code.now plain.now 0 gaps.now) }
+    ensures { Puts out.old.items out.new.items result (with_gaps starts.now code.now plain.now 0 gaps.now) }
 {
     let mut from = 0;
     for gap in gaps {

@@ -19,7 +19,8 @@ pub fn read_place<S: Source>(
 ) -> Result<u32, ReadError>
     requires rising { IsRising offsets.now }
     requires few { length offsets.now < 2 ^ 32 }
-    ensures value { ReadsPart S.left S.faults (instruction_place offsets.now) w.old source.old w.new source.new result }
+    ensures value { ReadsPart S.left S.faults (instruction_place offsets.now) w.old source.old w.new
+        source.new result }
     ensures within { IfOk result (λ n. n < length offsets.now) }
     ensures no_memory { result ≡ Err ReadError.NoMemory → ⊥ }
 {

@@ -5,7 +5,7 @@ ghost use Rattle.abc_file_types.specs.Canonical.{s24_bytes};
 ghost use Rattle.abc_varint.specs.Puts.{Puts};
 ghost use Rattle.abc_file_types.specs.Starts.{start};
 ghost use Rattle.abc_instr.specs.Pieces.{aimed_bytes, free_bytes};
-ghost use Rattle.abc_file_types.specs.CodeBytes.{code_len as total, instr_len as len_of, offset as offset_of, sized};
+ghost use Rattle.abc_file_types.specs.CodeBytes.{code_len as total, instr_len as len_of, offset as offset_of, with_lengths};
 ghost use Rattle.abc_file_types.specs.Ready.{CanSpell, Small};
 
 use abc_base::{NoMemory, Table};
@@ -40,7 +40,7 @@ pub fn short_len(instr: &Instr) -> u32
 pub fn offset_at(code: &Table<Instr>, index: u32) -> u32
     requires index { index ≤ length code.now }
     requires short { total code.now < 2 ^ 23 }
-    ensures { result ≡ start (sized code.now) index }
+    ensures { result ≡ start (with_lengths code.now) index }
 {
     let mut here = 0;
     for i in 0..index as usize {
@@ -70,7 +70,8 @@ fn put_offsets(
 ) -> Result<(), NoMemory>
     requires targets { All (λ t. (t < length starts.now) × (get_or starts.now t 0 < 2 ^ 23)) targets.now }
     requires base { base < 2 ^ 23 }
-    ensures { Puts out.old.items out.new.items result (flat_map (λ t. s24_bytes (offset_of starts.now base t)) targets.now) }
+    ensures { Puts out.old.items out.new.items result
+        (flat_map (λ t. s24_bytes (offset_of starts.now base t)) targets.now) }
 {
     for target in targets.as_slice() {
         put_offset(starts, base, *target, out)?;
@@ -120,7 +121,8 @@ fn put_byte(op: u8, x: u8, out: &mut Vec<u8>) -> Result<(), NoMemory>
 /// Appends `debug` with its operands.
 #[tactic(auto, using(abc_varint::proofs::Putting::stays, std::proofs::Common::append_assoc))]
 fn put_debug(kind: u8, name: u32, reg: u8, extra: u32, out: &mut Vec<u8>) -> Result<(), NoMemory>
-    ensures { Puts out.old.items out.new.items result (0xef ∷ kind ∷ (number_bytes name ++ reg ∷ number_bytes extra)) }
+    ensures { Puts out.old.items out.new.items result
+        (0xef ∷ kind ∷ (number_bytes name ++ reg ∷ number_bytes extra)) }
 {
     put_u8(DEBUG, out)?;
     put_u8(kind, out)?;
@@ -161,7 +163,10 @@ fn put_switch(
     requires default { (default < length starts.now) × (get_or starts.now default 0 < 2 ^ 23) }
     requires cases { All (λ t. (t < length starts.now) × (get_or starts.now t 0 < 2 ^ 23)) cases.now }
     requires here { here < 2 ^ 23 }
-    ensures { Puts out.old.items out.new.items result (0x1b ∷ (s24_bytes (offset_of starts.now here default) ++ (number_bytes (length cases.now - 1) ++ flat_map (λ t. s24_bytes (offset_of starts.now here t)) cases.now))) }
+    ensures { Puts out.old.items out.new.items result (0x1b
+        ∷ (s24_bytes (offset_of starts.now here default)
+        ++ (number_bytes (length cases.now - 1)
+        ++ flat_map (λ t. s24_bytes (offset_of starts.now here t)) cases.now))) }
 {
     put_u8(SWITCH, out)?;
     put_offset(starts, here, default, out)?;

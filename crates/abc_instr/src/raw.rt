@@ -1,15 +1,15 @@
 ghost use Rattle.std.specs.Prelude.{All, ◌≡◌, ◌≤◌, ◌<◌, ◌*◌, ◌^◌, None, Some, IfOk, OnOk, length};
 ghost use Rattle.std.specs.Int.{w16, cast_unsigned};
 ghost use Rattle.abc_file_types.specs.Canonical.{FitsS24};
-ghost use Rattle.abc_file_types.specs.Ends.{blamed};
+ghost use Rattle.abc_file_types.specs.Ends.{blame_first};
 ghost use Rattle.abc_file_types.specs.Lists.{times};
 ghost use Rattle.abc_file_types.specs.Numbers.{s24};
-ghost use Rattle.abc_file_types.specs.Instructions.{opcode as opcode_part, signed_byte, signed_short, instruction};
+ghost use Rattle.abc_file_types.specs.Instructions.{opcode_part, signed_byte, signed_short, instruction};
 ghost use Rattle.abc_file_types.specs.CodeBytes.{number_len};
 ghost use Rattle.abc_file_types.specs.Opcodes.{form_at};
-ghost use Rattle.abc_varint.specs.Reads.{Blames, Keeps, Reads, ReadsPart};
+ghost use Rattle.abc_varint.specs.Reads.{Blames, WindowKeeps, Reads, ReadsPart};
 ghost use Rattle.abc_varint.specs.View.{GoesOver};
-ghost use Rattle.abc_instr.specs.Offsets.{raw_len, raw_of, seen, IsRaw};
+ghost use Rattle.abc_instr.specs.Offsets.{raw_len, raw_of, map_value, IsRaw};
 
 use abc_base::{Source, Table};
 use abc_file_types::{Form, Instr, Reason, opcode};
@@ -28,7 +28,7 @@ pub enum RawInstr {
 }
 
 /// An opcode that some instruction has, and what follows it.
-#[tactic(auto, unfolding(abc_file_types::specs::Instructions::opcode, abc_file_types::specs::Opcodes::form_at))]
+#[tactic(auto, unfolding(abc_file_types::specs::Instructions::opcode_part, abc_file_types::specs::Opcodes::form_at))]
 fn read_opcode<S: Source>(w: &mut Window, source: &mut S) -> Result<(u8, Form), ReadError>
     ensures moves { OnOk result (w.old.place < w.new.place) }
     ensures value { ReadsPart S.left S.faults opcode_part w.old source.old w.new source.new result }
@@ -105,7 +105,8 @@ fn read_instruction<S: Source>(
     source: &mut S,
 ) -> Result<RawInstr, ReadError>
     ensures moves { OnOk result (w.old.place < w.new.place) }
-    ensures value { ReadsPart S.left S.faults instruction w.old source.old w.new source.new (seen raw_of result) }
+    ensures value { ReadsPart S.left S.faults instruction w.old source.old w.new source.new
+        (map_value raw_of result) }
     ensures raw { IfOk result IsRaw }
     ensures passes { IfOk result (λ i. GoesOver (raw_len i) w.old w.new) }
 {
@@ -167,12 +168,13 @@ pub fn read_raw<S: Source>(
 ) -> Result<RawInstr, ReadError>
     requires { w.old.kept ≡ None }
     ensures moves { OnOk result (w.old.place < w.new.place) }
-    ensures value { Reads (blamed instruction).reads w.old (S.left source.old) w.new (S.left source.new) (seen raw_of result) }
+    ensures value { Reads (blame_first instruction).reads w.old (S.left source.old) w.new (S.left source.new)
+        (map_value raw_of result) }
     ensures raw { IfOk result IsRaw }
     ensures passes { IfOk result (λ i. GoesOver (raw_len i) w.old w.new) }
     ensures later { S.faults source.old ≤ S.faults source.new }
     ensures cause { Blames w.old (S.faults source.old) (S.faults source.new) result }
-    ensures keeps { Keeps w.old w.new result }
+    ensures keeps { WindowKeeps w.old w.new result }
 {
     let place = w.place();
     match read_instruction(alloc, w, source) {

@@ -3,9 +3,9 @@ ghost use Rattle.abc_file_types.specs.Code.{code as code_part};
 ghost use Rattle.abc_file_types.specs.Instructions.{code_length};
 ghost use Rattle.abc_file_types.specs.Ready.{IsReady};
 ghost use Rattle.abc_file_types.specs.Starts.{IsRising};
-ghost use Rattle.abc_varint.specs.Answers.{Answers};
+ghost use Rattle.abc_varint.specs.Answers.{AnswersPart};
 ghost use Rattle.abc_varint.specs.Reads.{ReadsPart};
-ghost use Rattle.abc_instr.specs.Reading.{AreSmallStarts, aimed, with_offsets};
+ghost use Rattle.abc_instr.specs.Reading.{AreSmallStarts, with_targets, with_offsets};
 ghost use Rattle.abc_instr.specs.Resolving.{Resolves};
 
 use crate::reading::{Reading, read_pieces};
@@ -39,7 +39,8 @@ pub fn read_length<S: Source>(w: &mut Window, source: &mut S) -> Result<u32, Rea
 fn take_instrs(alloc: Global, reading: &mut Reading) -> Result<Table<Instr>, Missed>
     requires places { AreSmallStarts (length (reading.old).instrs) (reading.old).starts }
     requires aims { All (λ a. a < length (reading.old).instrs) (reading.old).aims.items }
-    ensures value { Resolves (aimed (reading.old).starts (reading.old).aims.items (reading.old).instrs) result }
+    ensures value { Resolves (with_targets (reading.old).starts (reading.old).aims.items (reading.old).instrs)
+        result }
     ensures starts { (reading.new).starts ≡ (reading.old).starts }
 {
     reading.starts.prepare(reading.aims.len())?;
@@ -50,14 +51,15 @@ fn take_instrs(alloc: Global, reading: &mut Reading) -> Result<Table<Instr>, Mis
 
 /// Reads code, as `read_code` does, in memory that serves one code after the other. Gives the instructions, and leaves
 /// their starts in the reading.
-#[tactic(auto, unfolding(abc_file_types::specs::Code::code, abc_file_types::specs::Code::code_body, abc_file_types::specs::Targets::resolve))]
+#[tactic(auto, unfolding(abc_file_types::specs::Code::code, abc_file_types::specs::Code::code_body, abc_file_types::specs::Targets::resolve_targets))]
 pub fn read_code_within<S: Source>(
     alloc: Global,
     w: &mut Window,
     source: &mut S,
     reading: &mut Reading,
 ) -> Result<Table<Instr>, ReadError>
-    ensures value { ReadsPart S.left S.faults code_part w.old source.old w.new source.new (with_offsets result (reading.new).starts) }
+    ensures value { ReadsPart S.left S.faults code_part w.old source.old w.new source.new
+        (with_offsets result (reading.new).starts) }
     ensures rising { OnOk result (IsRising (reading.new).starts) }
     ensures count { IfOk result (λ is. length (reading.new).starts ≡ length is + 1) }
     ensures few { OnOk result (length (reading.new).starts < 2 ^ 32) }
@@ -87,7 +89,7 @@ pub fn read_code<S: Source>(
     source: &mut S,
 ) -> Result<Code, ReadError>
     ensures value { ReadsPart S.left S.faults code_part w.old source.old w.new source.new result }
-    ensures answers { Answers code_part w.old (S.left source.old) w.new (S.left source.new) result }
+    ensures answers { AnswersPart code_part w.old (S.left source.old) w.new (S.left source.new) result }
     ensures rising { IfOk result (λ c. IsRising c.offsets) }
     ensures count { IfOk result (λ c. length c.offsets ≡ length c.instrs + 1) }
     ensures few { IfOk result (λ c. length c.offsets < 2 ^ 32) }

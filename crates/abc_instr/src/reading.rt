@@ -1,10 +1,10 @@
 ghost use Rattle.std.specs.Prelude.{◌≡◌, ◌≤◌, ◌<◌, ◌+◌, ◌^◌, ◌++◌, ◌∷◌, [], None, IfOk, OnOk, length, map};
 ghost use Rattle.std.specs.Int.{w32, cast_signed};
-ghost use Rattle.abc_file_types.specs.Ends.{blamed};
+ghost use Rattle.abc_file_types.specs.Ends.{blame_first};
 ghost use Rattle.abc_file_types.specs.Instructions.{instruction, pieces as pieces_part};
-ghost use Rattle.abc_varint.specs.Reads.{Blames, Keeps, Reads, ReadsUntil};
+ghost use Rattle.abc_varint.specs.Reads.{Blames, WindowKeeps, Reads, ReadsUntil};
 ghost use Rattle.abc_instr.specs.Offsets.{IsRaw};
-ghost use Rattle.abc_instr.specs.Reading.{IsReading, IsRead, ReadsPieces, Takes, TakesInstrOn};
+ghost use Rattle.abc_instr.specs.Reading.{IsReading, AreInstructionsRead, ReadsPieces, Takes, TakesInstrOn};
 
 use crate::front::Front;
 use crate::push::push_next;
@@ -66,7 +66,8 @@ impl Reading {
     fn wait(&mut self, instr: Instr) -> Result<(), NoMemory>
         requires few { length (self.old).instrs < 2 ^ 32 }
         ensures instrs { OnOk result ((self.new).instrs ≡ (self.old).instrs ++ instr ∷ []) }
-        ensures aims { OnOk result ((self.new).aims.items ≡ (self.old).aims.items ++ length (self.old).instrs ∷ []) }
+        ensures aims { OnOk result
+            ((self.new).aims.items ≡ (self.old).aims.items ++ length (self.old).instrs ∷ []) }
         ensures starts { OnOk result ((self.new).starts ≡ (self.old).starts) }
     {
         let index = self.instrs.len() as u32;
@@ -105,10 +106,12 @@ impl Reading {
     ) -> Result<(), ReadError>
         requires fresh { w.old.kept ≡ None }
         requires few { length (self.old).instrs < 2 ^ 32 }
-        ensures value { TakesInstrOn (Reads (blamed instruction).reads w.old (S.left source.old) w.new (S.left source.new)) w.old w.new self.old self.new result }
+        ensures value { TakesInstrOn
+            (Reads (blame_first instruction).reads w.old (S.left source.old) w.new (S.left source.new)) w.old
+            w.new self.old self.new result }
         ensures later { S.faults source.old ≤ S.faults source.new }
         ensures cause { Blames w.old (S.faults source.old) (S.faults source.new) result }
-        ensures keeps { Keeps w.old w.new result }
+        ensures keeps { WindowKeeps w.old w.new result }
     {
         let instr = read_raw(alloc, w, source)?;
         let _next = w.place();
@@ -127,10 +130,12 @@ impl Reading {
     ) -> Result<(), ReadError>
         requires fresh { w.old.kept ≡ None }
         requires few { length (self.old).instrs < 2 ^ 32 }
-        ensures value { TakesInstrOn (Reads (blamed instruction).reads w.old (S.left source.old) w.new (S.left source.new)) w.old w.new self.old self.new result }
+        ensures value { TakesInstrOn
+            (Reads (blame_first instruction).reads w.old (S.left source.old) w.new (S.left source.new)) w.old
+            w.new self.old self.new result }
         ensures later { S.faults source.old ≤ S.faults source.new }
         ensures cause { Blames w.old (S.faults source.old) (S.faults source.new) result }
-        ensures keeps { Keeps w.old w.new result }
+        ensures keeps { WindowKeeps w.old w.new result }
     {
         match push_next(w, &mut self.instrs)? {
             Some(Front::Put(_)) => Ok(()),
@@ -153,10 +158,12 @@ fn read_until<S: Source>(
     requires fresh { w.old.kept ≡ None }
     requires end { w.old.end ≤ w.old.place + byte_count }
     requires small { byte_count < 2 ^ 23 }
-    ensures value { ReadsPieces (ReadsUntil byte_count (pieces_part byte_count).reads w.old (S.left source.old) w.new (S.left source.new)) IsReading byte_count w.old w.new reading.new result }
+    ensures value { ReadsPieces (ReadsUntil byte_count (pieces_part byte_count).reads w.old
+        (S.left source.old) w.new (S.left source.new)) IsReading byte_count w.old w.new reading.new
+        result }
     ensures later { S.faults source.old ≤ S.faults source.new }
     ensures cause { Blames w.old (S.faults source.old) (S.faults source.new) result }
-    ensures keeps { Keeps w.old w.new result }
+    ensures keeps { WindowKeeps w.old w.new result }
 {
     reading.begin();
     let first = w.place();
@@ -181,10 +188,12 @@ fn read_within<S: Source>(
 ) -> Result<(), ReadError>
     requires fresh { w.old.kept ≡ None }
     requires small { byte_count < 2 ^ 23 }
-    ensures value { ReadsPieces (Reads (pieces_part byte_count).reads w.old (S.left source.old) w.new (S.left source.new)) IsReading byte_count w.old w.new reading.new result }
+    ensures value { ReadsPieces
+        (Reads (pieces_part byte_count).reads w.old (S.left source.old) w.new (S.left source.new)) IsReading
+        byte_count w.old w.new reading.new result }
     ensures later { S.faults source.old ≤ S.faults source.new }
     ensures cause { Blames w.old (S.faults source.old) (S.faults source.new) result }
-    ensures keeps { Keeps w.old w.new result }
+    ensures keeps { WindowKeeps w.old w.new result }
 {
     let outer = w.end();
     let end = outer.min(w.place() + byte_count);
@@ -204,10 +213,12 @@ pub fn read_pieces<S: Source>(
 ) -> Result<(), ReadError>
     requires fresh { w.old.kept ≡ None }
     requires small { byte_count < 2 ^ 23 }
-    ensures value { ReadsPieces (Reads (pieces_part byte_count).reads w.old (S.left source.old) w.new (S.left source.new)) IsRead byte_count w.old w.new reading.new result }
+    ensures value { ReadsPieces
+        (Reads (pieces_part byte_count).reads w.old (S.left source.old) w.new (S.left source.new))
+        AreInstructionsRead byte_count w.old w.new reading.new result }
     ensures later { S.faults source.old ≤ S.faults source.new }
     ensures cause { Blames w.old (S.faults source.old) (S.faults source.new) result }
-    ensures keeps { Keeps w.old w.new result }
+    ensures keeps { WindowKeeps w.old w.new result }
 {
     let first = w.place();
     read_within(alloc, w, source, byte_count, reading)?;

@@ -1,9 +1,9 @@
 ghost use Rattle.std.specs.Prelude.{◌≡◌, ◌≤◌, ◌<◌, ◌^◌, All, length, map};
 ghost use Rattle.std.specs.Int.{w32, cast_signed};
 ghost use Rattle.abc_file_types.specs.Starts.{IsRising};
-ghost use Rattle.abc_file_types.specs.Targets.{target_of, found, cases_of, instr_of};
-ghost use Rattle.abc_varint.specs.Reads.{stored};
-ghost use Rattle.abc_instr.specs.Reading.{AreSmallStarts, aimed, spelled};
+ghost use Rattle.abc_file_types.specs.Targets.{target_of, found_target, cases_of, instr_of};
+ghost use Rattle.abc_varint.specs.Reads.{stored_value};
+ghost use Rattle.abc_instr.specs.Reading.{AreSmallStarts, with_targets, raw_instr};
 ghost use Rattle.abc_instr.specs.Resolving.{Resolves};
 ghost use Rattle.abc_instr.specs.declared.resolve.Missed.TheVariants as missed;
 
@@ -47,7 +47,7 @@ fn resolve_at(starts: &Starts, base: u32, offset: i32, place: u32) -> Result<u32
     requires rising { IsRising starts.now }
     requires few { length starts.now < 2 ^ 32 }
     requires base { base ≤ 2 ^ 24 }
-    ensures { Resolves (found place (target_of starts.now base offset)) result }
+    ensures { Resolves (found_target place (target_of starts.now base offset)) result }
 {
     match target_at(starts, base, offset) {
         Some(target) => Ok(target),
@@ -90,7 +90,7 @@ fn resolve_instr(
     requires few { length starts.now < 2 ^ 32 }
     requires here { here ≤ 2 ^ 24 }
     requires next { next ≤ 2 ^ 24 }
-    ensures { Resolves (instr_of starts.now here next (spelled instr)) result }
+    ensures { Resolves (instr_of starts.now here next (raw_instr instr)) result }
 {
     match instr {
         Instr::Branch(op, offset) => {
@@ -116,7 +116,7 @@ pub fn resolve_all(
 ) -> Result<(), Missed>
     requires places { AreSmallStarts (length instrs.old) starts.now }
     requires aims { All (λ a. a < length instrs.old) aims.now }
-    ensures { Resolves (aimed starts.now aims.now instrs.old) (stored result instrs.new) }
+    ensures { Resolves (with_targets starts.now aims.now instrs.old) (stored_value result instrs.new) }
 {
     let places = starts.as_slice();
     for aim in aims {

@@ -161,7 +161,8 @@ fn note_branch(
     requires form { form_at (get_or bytes.now 0 0) ≡ Some Form.Branch }
     requires here { here + 4 < 2 ^ 32 }
     requires moved { moved + 4 < 2 ^ 32 }
-    ensures step { IfOk result (λ n. 0 < n → StepsOver n bytes.now most here moved holes.old.items holes.new.items) }
+    ensures step { IfOk result
+        (λ n. 0 < n → StepsOver n bytes.now most here moved holes.old.items holes.new.items) }
     ensures none { IfOk result (λ n. n ≡ 0 → holes.new.items ≡ holes.old.items) }
 {
     if most < 4 {
@@ -190,7 +191,8 @@ fn other_over(
     requires room { 4 ≤ length bytes.now }
     requires here { here + 4 < 2 ^ 32 }
     requires moved { moved + 4 < 2 ^ 32 }
-    ensures step { IfOk result (λ n. 0 < n → StepsOver n bytes.now most here moved holes.old.items holes.new.items) }
+    ensures step { IfOk result
+        (λ n. 0 < n → StepsOver n bytes.now most here moved holes.old.items holes.new.items) }
     ensures none { IfOk result (λ n. n ≡ 0 → holes.new.items ≡ holes.old.items) }
 {
     let Some(info) = opcode(bytes[0]) else {
@@ -215,7 +217,8 @@ fn step_over(
     requires room { 4 ≤ length bytes.now }
     requires here { here + 4 < 2 ^ 32 }
     requires moved { moved + 4 < 2 ^ 32 }
-    ensures step { IfOk result (λ n. 0 < n → StepsOver n bytes.now most here moved holes.old.items holes.new.items) }
+    ensures step { IfOk result
+        (λ n. 0 < n → StepsOver n bytes.now most here moved holes.old.items holes.new.items) }
     ensures none { IfOk result (λ n. n ≡ 0 → holes.new.items ≡ holes.old.items) }
 {
     let count = step_len(bytes);
@@ -245,7 +248,8 @@ pub(crate) fn run(
     requires here { here + most < 2 ^ 23 }
     requires moved { moved ≤ here }
     ensures most { IfOk result (λ n. n ≤ most) }
-    ensures runs { IfOk result (Runs bytes.now here moved (mark_at marks.old) (mark_at marks.new) holes.old.items holes.new.items) }
+    ensures runs { IfOk result
+        (Runs bytes.now here moved (mark_at marks.old) (mark_at marks.new) holes.old.items holes.new.items) }
 {
     let mut at = 0;
     while at < most {

@@ -1,15 +1,15 @@
 ghost use Rattle.std.specs.Prelude.{◌≡◌, ◌≤◌, ◌<◌, ◌+◌, ◌-◌, ◌*◌, ◌^◌, ◌++◌, ◌∷◌, [], All, None, OnErr, OnOk, ℕ, length};
 ghost use Rattle.std.specs.List.{flat_map};
 ghost use Rattle.abc_file_types.specs.Canonical.{FitsS24, s24_bytes};
-ghost use Rattle.abc_file_types.specs.Ends.{blamed};
+ghost use Rattle.abc_file_types.specs.Ends.{blame_first};
 ghost use Rattle.abc_file_types.specs.Instructions.{instruction, pieces as pieces_part};
 ghost use Rattle.abc_varint.specs.Puts.{PutsWhole};
-ghost use Rattle.abc_varint.specs.Reads.{Blames, Keeps, Reads, ReadsUntil, stored};
+ghost use Rattle.abc_varint.specs.Reads.{Blames, WindowKeeps, Reads, ReadsUntil, stored_value};
 ghost use Rattle.abc_instr.specs.Marks.{mark_at};
 ghost use Rattle.abc_instr.specs.Offsets.{raw_len, IsRaw};
-ghost use Rattle.abc_instr.specs.Resolving.{Resolves, onto};
+ghost use Rattle.abc_instr.specs.Resolving.{Resolves, onto_found};
 ghost use Rattle.abc_instr.specs.Runs.{ScansRun};
-ghost use Rattle.abc_instr.specs.Scanning.{Adds, IsHole, Scans, ScansOn, ScansInstrOn, case_holes, raw_bytes, scan_bytes};
+ghost use Rattle.abc_instr.specs.Scanning.{AddsInstruction, IsHole, Scans, ScansOn, ScansInstrOn, case_holes, raw_bytes, scan_bytes};
 
 use crate::front::{Front, take_front};
 use crate::holes::{Hole, mend};
@@ -77,7 +77,8 @@ impl Scan {
         ensures run { OnOk result (ScansRun here w.old w.new self.old self.new) }
         ensures fresh { OnOk result (w.new.kept ≡ None) }
         ensures forth { OnOk result (w.old.place ≤ w.new.place) }
-        ensures few { OnOk result (length (self.new).code.items + w.old.place ≡ length (self.old).code.items + w.new.place) }
+        ensures few { OnOk result
+            (length (self.new).code.items + w.old.place ≡ length (self.old).code.items + w.new.place) }
         ensures same { OnErr result (w.new ≡ w.old) }
     {
         w.stays_small();
@@ -99,7 +100,15 @@ impl Scan {
         requires fits { FitsS24 offset }
         requires room { length (self.old).code.items < 2 ^ 32 }
         ensures code { OnOk result ((self.new).code.items ≡ (self.old).code.items ++ s24_bytes offset) }
-        ensures holes { OnOk result ((self.new).holes.items ≡ (self.old).holes.items ++ record { place = place; at = length (self.old).code.items; base = base; moved = moved; offset = offset } ∷ []) }
+        ensures holes { OnOk result ((self.new).holes.items
+            ≡ (self.old).holes.items
+            ++ record {
+              place = place;
+              at = length (self.old).code.items;
+              base = base;
+              moved = moved;
+              offset = offset;
+            } ∷ []) }
         ensures marks { OnOk result ((self.new).marks ≡ (self.old).marks) }
     {
         let at = self.len();
@@ -119,7 +128,8 @@ impl Scan {
         requires raw { IsRaw (RawInstr.Branch op offset) }
         requires room { length (self.old).code.items + 4 < 2 ^ 32 }
         requires here { here < next }
-        ensures { OnOk result (Adds (RawInstr.Branch op offset) (next - here) here self.old self.new) }
+        ensures { OnOk result
+            (AddsInstruction (RawInstr.Branch op offset) (next - here) here self.old self.new) }
     {
         let moved = self.len() + 4;
         put_u8(op, &mut self.code)?;
@@ -137,8 +147,11 @@ impl Scan {
     ) -> Result<(), NoMemory>
         requires fits { All FitsS24 cases.now }
         requires room { length (self.old).code.items + 3 * length cases.now < 2 ^ 32 }
-        ensures code { OnOk result ((self.new).code.items ≡ (self.old).code.items ++ flat_map s24_bytes cases.now) }
-        ensures holes { OnOk result ((self.new).holes.items ≡ (self.old).holes.items ++ case_holes next (length (self.old).code.items) base moved cases.now) }
+        ensures code { OnOk result
+            ((self.new).code.items ≡ (self.old).code.items ++ flat_map s24_bytes cases.now) }
+        ensures holes { OnOk result ((self.new).holes.items
+            ≡ (self.old).holes.items
+            ++ case_holes next (length (self.old).code.items) base moved cases.now) }
         ensures marks { OnOk result ((self.new).marks ≡ (self.old).marks) }
     {
         let slice = cases.as_slice();
@@ -161,7 +174,8 @@ impl Scan {
         requires raw { IsRaw (RawInstr.Switch default cases.now) }
         requires room { length (self.old).code.items + raw_len (RawInstr.Switch default cases.now) < 2 ^ 32 }
         requires here { here < next }
-        ensures { OnOk result (Adds (RawInstr.Switch default cases.now) (next - here) here self.old self.new) }
+        ensures { OnOk result
+            (AddsInstruction (RawInstr.Switch default cases.now) (next - here) here self.old self.new) }
     {
         let moved = self.len();
         put_u8(SWITCH, &mut self.code)?;
@@ -177,7 +191,7 @@ impl Scan {
         requires raw { IsRaw instr }
         requires room { length (self.old).code.items + raw_len instr < 2 ^ 32 }
         requires here { here < next }
-        ensures { OnOk result (Adds instr (next - here) here self.old self.new) }
+        ensures { OnOk result (AddsInstruction instr (next - here) here self.old self.new) }
     {
         match instr {
             RawInstr::Same(same) => {
@@ -201,10 +215,12 @@ impl Scan {
         requires fresh { w.old.kept ≡ None }
         requires first { first ≤ w.old.place }
         requires moved { length (self.old).code.items ≤ w.old.place }
-        ensures value { ScansInstrOn (Reads (blamed instruction).reads w.old (S.left source.old) w.new (S.left source.new)) first w.old w.new self.old self.new result }
+        ensures value { ScansInstrOn
+            (Reads (blame_first instruction).reads w.old (S.left source.old) w.new (S.left source.new)) first
+            w.old w.new self.old self.new result }
         ensures later { S.faults source.old ≤ S.faults source.new }
         ensures cause { Blames w.old (S.faults source.old) (S.faults source.new) result }
-        ensures keeps { Keeps w.old w.new result }
+        ensures keeps { WindowKeeps w.old w.new result }
     {
         let here = w.place() - first;
         let instr = read_raw(alloc, w, source)?;
@@ -226,10 +242,12 @@ impl Scan {
         requires fresh { w.old.kept ≡ None }
         requires first { first ≤ w.old.place }
         requires moved { length (self.old).code.items ≤ w.old.place }
-        ensures value { ScansInstrOn (Reads (blamed instruction).reads w.old (S.left source.old) w.new (S.left source.new)) first w.old w.new self.old self.new result }
+        ensures value { ScansInstrOn
+            (Reads (blame_first instruction).reads w.old (S.left source.old) w.new (S.left source.new)) first
+            w.old w.new self.old self.new result }
         ensures later { S.faults source.old ≤ S.faults source.new }
         ensures cause { Blames w.old (S.faults source.old) (S.faults source.new) result }
-        ensures keeps { Keeps w.old w.new result }
+        ensures keeps { WindowKeeps w.old w.new result }
     {
         let here = w.place() - first;
         match take_front(w, &mut self.code)? {
@@ -255,10 +273,11 @@ fn scan_until<S: Source>(
     requires fresh { w.old.kept ≡ None }
     requires end { w.old.end ≤ w.old.place + byte_count }
     requires small { byte_count < 2 ^ 23 }
-    ensures value { ScansOn (ReadsUntil byte_count (pieces_part byte_count).reads w.old (S.left source.old) w.new (S.left source.new)) byte_count w.old w.new scan.new result }
+    ensures value { ScansOn (ReadsUntil byte_count (pieces_part byte_count).reads w.old (S.left source.old)
+        w.new (S.left source.new)) byte_count w.old w.new scan.new result }
     ensures later { S.faults source.old ≤ S.faults source.new }
     ensures cause { Blames w.old (S.faults source.old) (S.faults source.new) result }
-    ensures keeps { Keeps w.old w.new result }
+    ensures keeps { WindowKeeps w.old w.new result }
 {
     scan.begin();
     let first = w.place();
@@ -286,10 +305,12 @@ fn scan_within<S: Source>(
 ) -> Result<(), ReadError>
     requires fresh { w.old.kept ≡ None }
     requires small { byte_count < 2 ^ 23 }
-    ensures value { ScansOn (Reads (pieces_part byte_count).reads w.old (S.left source.old) w.new (S.left source.new)) byte_count w.old w.new scan.new result }
+    ensures value { ScansOn
+        (Reads (pieces_part byte_count).reads w.old (S.left source.old) w.new (S.left source.new)) byte_count
+        w.old w.new scan.new result }
     ensures later { S.faults source.old ≤ S.faults source.new }
     ensures cause { Blames w.old (S.faults source.old) (S.faults source.new) result }
-    ensures keeps { Keeps w.old w.new result }
+    ensures keeps { WindowKeeps w.old w.new result }
 {
     let outer = w.end();
     let end = outer.min(w.place() + byte_count);
@@ -309,10 +330,12 @@ pub fn scan_code<S: Source>(
 ) -> Result<(), ReadError>
     requires fresh { w.old.kept ≡ None }
     requires small { byte_count < 2 ^ 23 }
-    ensures value { Scans (Reads (pieces_part byte_count).reads w.old (S.left source.old) w.new (S.left source.new)) byte_count scan.new result }
+    ensures value { Scans
+        (Reads (pieces_part byte_count).reads w.old (S.left source.old) w.new (S.left source.new)) byte_count
+        scan.new result }
     ensures later { S.faults source.old ≤ S.faults source.new }
     ensures cause { Blames w.old (S.faults source.old) (S.faults source.new) result }
-    ensures keeps { Keeps w.old w.new result }
+    ensures keeps { WindowKeeps w.old w.new result }
 {
     let first = w.place();
     scan_within(alloc, w, source, byte_count, scan)?;
@@ -332,7 +355,8 @@ fn put_bytes(bytes: &[u8], out: &mut Vec<u8>) -> Result<(), NoMemory>
 /// Appends the canonical code that was scanned, or gives the place of the first target that leads nowhere.
 pub fn put_scan(scan: &mut Scan, out: &mut Vec<u8>) -> Result<(), Missed>
     requires { All (IsHole (length (scan.old).code.items)) (scan.old).holes.items }
-    ensures bytes { Resolves (onto out.old.items (scan_bytes scan.old)) (stored result out.new.items) }
+    ensures bytes { Resolves (onto_found out.old.items (scan_bytes scan.old))
+        (stored_value result out.new.items) }
     ensures marks { (scan.new).marks ≡ (scan.old).marks }
 {
     put_count(scan.code.len(), out)?;

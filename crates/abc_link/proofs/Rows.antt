@@ -7,19 +7,19 @@ use Rattle.abc_link_names.specs.Numbering.{part_at}
 use Rattle.abc_link_names.specs.Slots.{traits_of}
 use Rattle.abc_link_names.specs.declared.part.Part.{Part}
 use Rattle.abc_link_names.specs.declared.part.Part.TheVariants as parts
-use Rattle.abc_link.specs.OwnSlots.{has_slot, own_slots_before, slots_before, slots_from}
+use Rattle.abc_link.specs.OwnSlots.{is_slot_trait, own_slots_before, slots_before, slots_from}
 use Rattle.abc_file_types.specs.declared.tables.Abc.{Abc}
 use Rattle.abc_file_types.specs.declared.traits.TraitInfo.{TraitInfo}
 
 -- one trait more
-pub row_next : (ts : List TraitInfo) (before : List ℕ) (n m i : ℕ) (t : TraitInfo) → i < length ts → t ≡ get_or ts i t → before ++ slots_from n (drop i ts) ≡ slots_before ts → m ≡ cond (has_slot t.body) (n + 1) n
+pub row_next : (ts : List TraitInfo) (before : List ℕ) (n m i : ℕ) (t : TraitInfo) → i < length ts → t ≡ get_or ts i t → before ++ slots_from n (drop i ts) ≡ slots_before ts → m ≡ cond (is_slot_trait t.body) (n + 1) n
     → (before ++ n ∷ []) ++ slots_from m (drop (i + 1) ts) ≡ slots_before ts
 row_next ts before n m i t lt is e em =
     let one : i + 1 ≡ suc i = omega arith in
     append_assoc before (n ∷ []) (slots_from m (drop (i + 1) ts))
     ∙ ap (λ k. before ++ n ∷ slots_from k (drop (i + 1) ts)) em
-    ∙ ap (λ k. before ++ n ∷ slots_from (cond (has_slot t.body) (n + 1) n) (drop k ts)) one
-    ∙ ap (λ (u : TraitInfo). before ++ n ∷ slots_from (cond (has_slot u.body) (n + 1) n) (drop (suc i) ts)) is
+    ∙ ap (λ k. before ++ n ∷ slots_from (cond (is_slot_trait t.body) (n + 1) n) (drop k ts)) one
+    ∙ ap (λ (u : TraitInfo). before ++ n ∷ slots_from (cond (is_slot_trait u.body) (n + 1) n) (drop (suc i) ts)) is
     ∙ ap (λ (us : List TraitInfo). before ++ slots_from n us) (sym (drop-cons ts i t lt))
     ∙ e
 
@@ -43,7 +43,7 @@ row_of v (p ∷ ps) (suc x) row lt e = row_of v ps x row (omega arith) e
 
 pub row_length : (n : ℕ) (ts : List TraitInfo) → length (slots_from n ts) ≡ length ts
 row_length n [] = refl
-row_length n (t ∷ ts) = ap suc (row_length (cond (has_slot t.body) (n + 1) n) ts)
+row_length n (t ∷ ts) = ap suc (row_length (cond (is_slot_trait t.body) (n + 1) n) ts)
 
 pub there : {X : Type 0} (xs : List X) (i : ℕ) (x : X) → i < length xs → get_or xs i x ≡ x → slice_get xs i ≡ Some x
 there [] i x h e = absurd (omega arith)

@@ -8,15 +8,15 @@ use Rattle.abc_file_types.specs.declared.traits.TraitBody.{TraitBody}
 use Rattle.abc_file_types.specs.declared.traits.TraitBody.TheVariants as bodies
 use Rattle.abc_file_types.specs.declared.traits.TraitInfo.{TraitInfo}
 
-abbrev pub has_slot : TraitBody → Bool
-has_slot (bodies.Slot id ty value constant) = true
-has_slot (bodies.Class id k) = true
-has_slot other = false
+abbrev pub is_slot_trait : TraitBody → Bool
+is_slot_trait (bodies.Slot id ty value constant) = true
+is_slot_trait (bodies.Class id k) = true
+is_slot_trait other = false
 
 -- the same, where so many stand before all of them
 abbrev pub slots_from : ℕ → List TraitInfo → List ℕ
 slots_from n [] = []
-slots_from n (t ∷ ts) = n ∷ slots_from (if has_slot t.body then n + 1 else n) ts
+slots_from n (t ∷ ts) = n ∷ slots_from (if is_slot_trait t.body then n + 1 else n) ts
 
 -- for each of some traits, how many of those before it have a slot
 abbrev pub slots_before : List TraitInfo → List ℕ

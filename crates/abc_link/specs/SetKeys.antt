@@ -28,6 +28,6 @@ abbrev pub are_public : Abc → List Bool
 are_public v = map (list_any (is_public v)) v.sets
 
 -- The table finds the namespaces of each set by their keys, and has for each set whether the public namespace is in it.
-pub record HasSets (v : Abc) (numbers : List ℕ) (s : SetSpaces) : Type 0 where
+pub record HasSetKeys (v : Abc) (numbers : List ℕ) (s : SetSpaces) : Type 0 where
   pub places : (k : SetKey) → get set_keys_eq s.places k ≡ first (set_keys_eq k) (set_keys v numbers)
   pub publics : s.publics ≡ are_public v

@@ -2,7 +2,7 @@ ghost use Rattle.std.specs.Prelude.{◌≡◌, length, IfOk};
 ghost use Rattle.abc_link_names.specs.Linked.{above as above_of};
 ghost use Rattle.abc_link_names.specs.Tree.{IsBelow};
 ghost use Rattle.abc_link.specs.Ladders.{AreRungs};
-ghost use Rattle.abc_link_layouts.specs.Files.{linked};
+ghost use Rattle.abc_link_layouts.specs.Files.{linked_file};
 ghost use Rattle.abc_link_layouts.specs.Laid.{AreLayouts};
 
 use abc_base::{NoMemory, Table};
@@ -24,7 +24,7 @@ pub(crate) struct Rung {
 #[tactic(auto, using(crate::proofs::Laws::none_above))]
 pub(crate) fn above(abc: &Abc, layouts: &Layouts, layout: u32) -> u32
     requires { AreLayouts abc.now layouts.now }
-    ensures { result ≡ above_of (linked abc.now layouts.now) layout }
+    ensures { result ≡ above_of (linked_file abc.now layouts.now) layout }
 {
     if layout as usize >= layouts.len() {
         return 0;
@@ -35,8 +35,8 @@ pub(crate) fn above(abc: &Abc, layouts: &Layouts, layout: u32) -> u32
 /// What is known of the way up from a layout; of one that has no rung that it is its own end.
 #[tactic(auto, using(crate::proofs::Rungs::rung_there, crate::proofs::Rungs::at_itself))]
 fn rung_at(abc: &Abc, layouts: &Layouts, rungs: &Table<Rung>, layout: u32) -> Rung
-    requires { AreRungs (linked abc.now layouts.now) rungs.now }
-    ensures { IsBelow (linked abc.now layouts.now) layout result.far }
+    requires { AreRungs (linked_file abc.now layouts.now) rungs.now }
+    ensures { IsBelow (linked_file abc.now layouts.now) layout result.far }
 {
     let _file = abc;
     let _layouts = layouts;
@@ -51,8 +51,8 @@ fn rung_at(abc: &Abc, layouts: &Layouts, rungs: &Table<Rung>, layout: u32) -> Ru
 
 /// A layout far above a layout, or the layout itself.
 pub(crate) fn far_above(abc: &Abc, layouts: &Layouts, rungs: &Table<Rung>, layout: u32) -> u32
-    requires { AreRungs (linked abc.now layouts.now) rungs.now }
-    ensures { IsBelow (linked abc.now layouts.now) layout result }
+    requires { AreRungs (linked_file abc.now layouts.now) rungs.now }
+    ensures { IsBelow (linked_file abc.now layouts.now) layout result }
 {
     rung_at(abc, layouts, rungs, layout).far
 }
@@ -62,8 +62,8 @@ pub(crate) fn far_above(abc: &Abc, layouts: &Layouts, rungs: &Table<Rung>, layou
 #[tactic(auto, using(crate::proofs::Rungs::one_up, crate::proofs::Rungs::two_up))]
 fn next_rung(abc: &Abc, layouts: &Layouts, rungs: &Table<Rung>, layout: u32) -> Rung
     requires layouts { AreLayouts abc.now layouts.now }
-    requires rungs { AreRungs (linked abc.now layouts.now) rungs.now }
-    ensures { IsBelow (linked abc.now layouts.now) layout result.far }
+    requires rungs { AreRungs (linked_file abc.now layouts.now) rungs.now }
+    ensures { IsBelow (linked_file abc.now layouts.now) layout result.far }
 {
     let above = above(abc, layouts, layout);
     let near = rung_at(abc, layouts, rungs, above);
@@ -89,7 +89,7 @@ pub(crate) fn rungs_of(
     count: u32,
 ) -> Result<Table<Rung>, NoMemory>
     requires { AreLayouts abc.now layouts.now }
-    ensures { IfOk result (AreRungs (linked abc.now layouts.now)) }
+    ensures { IfOk result (AreRungs (linked_file abc.now layouts.now)) }
 {
     let mut rungs = Table::new(alloc);
     for layout in 0..count {

@@ -6,12 +6,12 @@ ghost use Rattle.abc_base_graphs.specs.Index.{first};
 ghost use Rattle.abc_base_graphs.specs.Texts.{texts_of};
 ghost use Rattle.abc_link_names.specs.Pool.{is_public as is_public_in, same_space, set as set_of};
 ghost use Rattle.abc_link_names.specs.Interfaces.{Implements};
-ghost use Rattle.abc_link_names.specs.Linked.{IsLayout, IsLinkedFile, above as above_of, base as base_of, layout_of as layout_of_part, part_of as part_of_layout};
+ghost use Rattle.abc_link_names.specs.Linked.{IsLayout, IsLinkedFile, above as above_of, base_layout as base_of, layout_of as layout_of_part, part_of as part_of_layout};
 ghost use Rattle.abc_link_names.specs.Owners.{body_of as body_of_method, owner_of};
 ghost use Rattle.abc_link_names.specs.Slots.{HasFewSlots, slot_numbered as slot_with, slots_of};
 ghost use Rattle.abc_link_names.specs.Tree.{IsBelow};
 ghost use Rattle.abc_link_names.specs.Traits.{own_table_of, own_traits as own_traits_of};
-ghost use Rattle.abc_link_layouts.specs.Numbering.{IsNumbered};
+ghost use Rattle.abc_link_layouts.specs.Numbering.{HasLayoutNumbers};
 ghost use Rattle.abc_link.specs.OwnSlots.{slots_before as slots_before_of};
 ghost use Rattle.abc_link.specs.ScriptTraits.{owners_of, script_traits as script_traits_of};
 ghost use Rattle.abc_link_names.specs.Types.{type_of as type_of_name};
@@ -54,9 +54,9 @@ impl Model for Linked {
 
     ghost Value = { LinkedFile };
 
-    ghost use Rattle.abc_link.specs.Tables.{AreTables, file_of};
+    ghost use Rattle.abc_link.specs.Tables.{AreTables, file_of_tables};
 
-    ghost view = { file_of };
+    ghost view = { file_of_tables };
 
     ghost invariant = { AreTables };
 }
@@ -79,7 +79,7 @@ impl Linked {
 
     /// The layouts of every linked file have the one numbering of its file.
     pub fn numbering_law(&self)
-        ensures { IsNumbered self.now }
+        ensures { HasLayoutNumbers self.now }
     {
         let _file = &self.abc;
     }
@@ -241,7 +241,8 @@ impl Linked {
 
     /// The number of the text of a string of the file, by its index: index 0 is the empty text, and so are those past the end.
     pub fn string_number(&self, string: u32) -> u32
-        ensures { first (bytes_eq (get_or (texts_of self.now.file.strings) string [])) (texts_of self.now.file.strings) ≡ Some result }
+        ensures { first (bytes_eq (get_or (texts_of self.now.file.strings) string []))
+            (texts_of self.now.file.strings) ≡ Some result }
     {
         string_number(&self.abc, &self.names.texts, &self.names.numbers, string)
     }
@@ -250,7 +251,8 @@ impl Linked {
     /// none where no own trait has the text.
     pub fn own_numbered(&self, layout: LayoutId, number: Option<u32>) -> Option<&Table<u32>>
         requires { IsLayout self.now layout }
-        ensures { (t : List ℕ) → first (bytes_eq t) (texts_of self.now.file.strings) ≡ number → option_copied result ≡ own_traits_of self.now layout.0 t }
+        ensures { (t : List ℕ) → first (bytes_eq t) (texts_of self.now.file.strings) ≡ number
+            → option_copied result ≡ own_traits_of self.now layout.0 t }
     {
         self.made.members.own_numbered(
             &self.abc,
@@ -276,7 +278,8 @@ impl Linked {
     /// The traits of all scripts that have the text of a number, as their places among these, in order. It answers none
     /// where no trait of a script has the text.
     pub fn script_traits(&self, number: Option<u32>) -> Option<&Table<u32>>
-        ensures { (t : List ℕ) → first (bytes_eq t) (texts_of self.now.file.strings) ≡ number → option_copied result ≡ script_traits_of self.now.file t }
+        ensures { (t : List ℕ) → first (bytes_eq t) (texts_of self.now.file.strings) ≡ number
+            → option_copied result ≡ script_traits_of self.now.file t }
     {
         self.made
             .search

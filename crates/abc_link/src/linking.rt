@@ -1,9 +1,9 @@
 ghost use Rattle.std.specs.Prelude.{◌≡◌, ◌<◌, ◌^◌, length, IfOk, MatchResult};
-ghost use Rattle.abc_link_interfaces.specs.Sets.{HasSets};
+ghost use Rattle.abc_link_interfaces.specs.Sets.{HasAllSets};
 ghost use Rattle.abc_link.specs.Ladders.{AreRungs};
-ghost use Rattle.abc_link.specs.LinkedMade.{IsMade};
+ghost use Rattle.abc_link.specs.LinkedMade.{IsLinkedMade};
 ghost use Rattle.abc_link_layouts.specs.Owning.{AreOwners};
-ghost use Rattle.abc_link_layouts.specs.Files.{linked};
+ghost use Rattle.abc_link_layouts.specs.Files.{linked_file};
 ghost use Rattle.abc_link_layouts.specs.Grouped.{HasGroups};
 ghost use Rattle.abc_link_layouts.specs.Laid.{AreLayouts};
 ghost use Rattle.abc_link.specs.TablesMade.{AreSearchTables};
@@ -11,7 +11,7 @@ ghost use Rattle.abc_link_layouts.specs.Tables.{HasSlots};
 ghost use Rattle.abc_link_names.specs.Meanings.{AreMeanings};
 ghost use Rattle.abc_link_names.specs.Numbers.{AreNames};
 ghost use Rattle.abc_link_names.specs.Linked.{IsLinkedFile};
-ghost use Rattle.abc_link_names.specs.Firsts.{IsFew, IsRefusal};
+ghost use Rattle.abc_link_names.specs.Firsts.{IsFew, IsLinkRefusal};
 ghost use Rattle.abc_link_names.specs.Rules.{AllHold};
 ghost use Rattle.abc_file_types.specs.Files.{Fits};
 
@@ -92,8 +92,9 @@ fn lay(alloc: Global, abc: &Abc, meanings: &Table<Option<Named>>) -> Result<Laid
     requires rules { AllHold abc.now }
     ensures layouts { IfOk result (λ l. AreLayouts abc.now l.layouts) }
     ensures few { IfOk result (λ l. length l.layouts.parts < 2 ^ 32) }
-    ensures rungs { IfOk result (λ l. AreRungs (linked abc.now l.layouts) l.rungs) }
-    ensures slots { IfOk result (λ l. HasSlots (linked abc.now l.layouts) l.slots (length l.layouts.parts)) }
+    ensures rungs { IfOk result (λ l. AreRungs (linked_file abc.now l.layouts) l.rungs) }
+    ensures slots { IfOk result
+        (λ l. HasSlots (linked_file abc.now l.layouts) l.slots (length l.layouts.parts)) }
 {
     let layouts = layouts_in(alloc, abc, meanings)?;
     let count = layouts.len() as u32;
@@ -131,9 +132,11 @@ fn tables_over(
     requires layouts { AreLayouts abc.now layouts.now }
     requires few { length layouts.now.parts < 2 ^ 32 }
     ensures owners { IfOk result (λ t. AreOwners abc.now t.owners) }
-    ensures interfaces { IfOk result (λ t. HasSets abc.now t.interfaces.sets) }
-    ensures members { IfOk result (λ t. HasGroups (linked abc.now layouts.now) names.now.texts t.members.groups (length layouts.now.parts)) }
-    ensures search { IfOk result (λ t. AreSearchTables abc.now layouts.now.parts names.now.texts names.now.numbers t.search) }
+    ensures interfaces { IfOk result (λ t. HasAllSets abc.now t.interfaces.sets) }
+    ensures members { IfOk result (λ t. HasGroups (linked_file abc.now layouts.now) names.now.texts
+        t.members.groups (length layouts.now.parts)) }
+    ensures search { IfOk result
+        (λ t. AreSearchTables abc.now layouts.now.parts names.now.texts names.now.numbers t.search) }
 {
     let owners = Owners::new(alloc, abc)?;
     let meanings = Meanings::new(abc, meanings);
@@ -161,7 +164,7 @@ fn make(
     requires meanings { AreMeanings abc.now meanings.now }
     requires rules { AllHold abc.now }
     requires few { IsFew abc.now }
-    ensures { IfOk result (λ m. IsMade abc.now names.now m) }
+    ensures { IfOk result (λ m. IsLinkedMade abc.now names.now m) }
 {
     let laid = lay(alloc, abc, meanings)?;
     match tables_over(alloc, abc, names, meanings, &laid.layouts) {
@@ -190,7 +193,7 @@ fn check(
 ) -> Result<(), LinkError>
     requires names { AreNames abc.now names.now }
     requires meanings { AreMeanings abc.now meanings.now }
-    ensures { MatchResult result (λ _. AllHold abc.now × IsFew abc.now) (IsRefusal abc.now) }
+    ensures { MatchResult result (λ _. AllHold abc.now × IsFew abc.now) (IsLinkRefusal abc.now) }
 {
     if !are_few(abc) {
         return Err(LinkError::NoMemory);
@@ -208,7 +211,8 @@ struct Tables {
 
 /// The tables of a file that keeps the rules.
 fn tables_of(alloc: Global, abc: &Abc) -> Result<Tables, LinkError>
-    ensures { MatchResult result (λ t. AllHold abc.now × IsFew abc.now × AreNames abc.now t.names × AreMeanings abc.now t.meanings × IsMade abc.now t.names t.made) (IsRefusal abc.now) }
+    ensures { MatchResult result (λ t. AllHold abc.now × IsFew abc.now × AreNames abc.now t.names
+        × AreMeanings abc.now t.meanings × IsLinkedMade abc.now t.names t.made) (IsLinkRefusal abc.now) }
 {
     let names = NameTables::new(alloc, abc)?;
     let meanings = meanings_in(alloc, abc, &names)?;
@@ -225,7 +229,7 @@ fn tables_of(alloc: Global, abc: &Abc) -> Result<Tables, LinkError>
 /// `LinkRule`, and the first item that breaks it, in file order. Linking consumes the file.
 pub fn link(alloc: Global, abc: Abc) -> Result<Linked, LinkError>
     requires { Fits abc }
-    ensures { MatchResult result (λ l. (l.file ≡ abc) × IsLinkedFile l) (IsRefusal abc) }
+    ensures { MatchResult result (λ l. (l.file ≡ abc) × IsLinkedFile l) (IsLinkRefusal abc) }
 {
     match tables_of(alloc, &abc) {
         Ok(tables) => {

@@ -47,7 +47,8 @@ fn push_scripts(
     requires few { length abc.now.scripts < 2 ^ 32 }
     requires keys { keys.old.items ≡ [] }
     requires owners { owners.old ≡ [] }
-    ensures keys { OnOk result (keys.new.items ≡ keys_of abc.now numbers.now (traits_of_scripts abc.now.scripts)) }
+    ensures keys { OnOk result
+        (keys.new.items ≡ keys_of abc.now numbers.now (traits_of_scripts abc.now.scripts)) }
     ensures owners { OnOk result (owners.new ≡ owners_of abc.now) }
 {
     for (script, entry) in abc.scripts.as_slice().iter().enumerate() {
@@ -92,7 +93,8 @@ impl ScriptTraits {
     /// tables. It answers none where no trait of a script has the text.
     pub fn numbered(&self, abc: &Abc, texts: &Texts, number: Option<u32>) -> Option<&Table<u32>>
         requires { HasScripts abc.now texts.now self.now }
-        ensures { (t : List ℕ) → number_in texts.now t ≡ number → option_copied result ≡ script_traits abc.now t }
+        ensures { (t : List ℕ) → number_in texts.now t ≡ number
+            → option_copied result ≡ script_traits abc.now t }
     {
         let _file = abc;
         let _texts = texts;

@@ -2,7 +2,7 @@ ghost use Rattle.std.specs.Prelude.{◌≡◌, ◌++◌, ◌-◌, ◌<◌, ◌^�
 ghost use Rattle.std.specs.List.{list_any};
 ghost use Rattle.abc_base_graphs.specs.Index.{first};
 ghost use Rattle.abc_link_names.specs.Pool.{is_public, same_space, set as set_of};
-ghost use Rattle.abc_link.specs.SetKeys.{HasSets, are_public, set_key as key_of, set_keys, set_keys_eq};
+ghost use Rattle.abc_link.specs.SetKeys.{HasSetKeys, are_public, set_key as key_of, set_keys, set_keys_eq};
 ghost use Rattle.abc_link.specs.declared.sets.SetKey.{SetKey as SetKeyOf};
 ghost use Rattle.indexmap.specs.IndexMap.{get};
 
@@ -62,7 +62,8 @@ fn push_set(
     spaces: &[u32],
     keys: &mut Vec<SetKey>,
 ) -> Result<(), NoMemory>
-    ensures { OnOk result (keys.new.items ≡ keys.old.items ++ map (key_of names.now.abc.now names.now.tables.now.numbers set) spaces.now) }
+    ensures { OnOk result (keys.new.items
+        ≡ keys.old.items ++ map (key_of names.now.abc.now names.now.tables.now.numbers set) spaces.now) }
 {
     for space in spaces {
         keys.push(set_key(names, set, *space))?;
@@ -97,7 +98,7 @@ fn publics_of(alloc: Global, names: &Names<'_>) -> Result<Table<bool>, NoMemory>
 impl SetSpaces {
     /// The sets of a file. Of 2^32 sets or more, or of as many namespaces in sets, there is never room for all.
     pub fn new(alloc: Global, names: &Names<'_>) -> Result<SetSpaces, NoMemory>
-        ensures { IfOk result (λ s. HasSets names.now.abc.now names.now.tables.now.numbers s) }
+        ensures { IfOk result (λ s. HasSetKeys names.now.abc.now names.now.tables.now.numbers s) }
     {
         if names.abc.sets.len() >= u32::MAX as usize {
             return Err(NoMemory);
@@ -113,7 +114,7 @@ impl SetSpaces {
 
     /// Whether a set has a namespace that is equal to one of the pool.
     pub fn holds(&self, names: &Names<'_>, set: u32, space: u32) -> bool
-        requires { HasSets names.now.abc.now names.now.tables.now.numbers self.now }
+        requires { HasSetKeys names.now.abc.now names.now.tables.now.numbers self.now }
         ensures { result ≡ list_any (same_space names.now.abc.now space) (set_of names.now.abc.now set) }
     {
         names.keys_tell_names();
@@ -122,7 +123,7 @@ impl SetSpaces {
 
     /// Whether a set has the public namespace.
     pub fn holds_public(&self, names: &Names<'_>, set: u32) -> bool
-        requires { HasSets names.now.abc.now names.now.tables.now.numbers self.now }
+        requires { HasSetKeys names.now.abc.now names.now.tables.now.numbers self.now }
         ensures { result ≡ list_any (is_public names.now.abc.now) (set_of names.now.abc.now set) }
     {
         let _names = names.abc;

@@ -1,7 +1,7 @@
 ghost use Rattle.std.specs.Prelude.{◌≡◌, ◌<◌, Some, length, slice_get, IfOk};
 ghost use Rattle.abc_link_names.specs.Numbering.{part_at};
 ghost use Rattle.abc_link_names.specs.Slots.{traits_of as traits_in};
-ghost use Rattle.abc_link.specs.OwnSlots.{HasOwnSlots, has_slot as does_have_slot, own_slots_before, slots_before};
+ghost use Rattle.abc_link.specs.OwnSlots.{HasOwnSlots, is_slot_trait as does_have_slot, own_slots_before, slots_before};
 
 use abc_base::{NoMemory, Table};
 use abc_file_types::{Abc, TraitBody, TraitInfo};
@@ -78,7 +78,8 @@ impl OwnSlots {
         requires slots { HasOwnSlots abc.now layouts.now.parts self.now }
         requires layout { layout < length layouts.now.parts }
         requires place { place < length (traits_in abc.now (part_at layouts.now.parts layout)) }
-        ensures { slice_get (slots_before (traits_in abc.now (part_at layouts.now.parts layout))) place ≡ Some result }
+        ensures { slice_get (slots_before (traits_in abc.now (part_at layouts.now.parts layout))) place
+            ≡ Some result }
     {
         let _file = abc;
         let _layouts = layouts;

@@ -34,7 +34,8 @@ impl SearchTables {
         requires texts { HasTexts texts.now (texts_of names.now.abc.now.strings) }
         requires numbers { numbers.now ≡ numbers_in texts.now names.now.abc.now.strings }
         requires few { length names.now.abc.now.scripts < 2 ^ 32 }
-        ensures { IfOk result (λ t. AreSearchTables names.now.abc.now layouts.now.parts texts.now names.now.tables.now.numbers t) }
+        ensures { IfOk result (λ t. AreSearchTables names.now.abc.now layouts.now.parts texts.now
+            names.now.tables.now.numbers t) }
     {
         let slots = OwnSlots::new(alloc, names.abc, layouts, count)?;
         let scripts = ScriptTraits::new(alloc, names.abc, texts, numbers)?;

@@ -3,7 +3,7 @@ use Rattle.std.proofs.Common.{◌≡◌, ℕ, ◌+◌, ◌<◌, ◌≤◌, ◌�
 use Rattle.std.proofs.lemmas.Bool.{cases_lt}
 use Rattle.std.proofs.lemmas.List.{get_or_past}
 use Rattle.std.proofs.lemmas.List.Elements.{Contains-append_left, Contains-push, Contains-push_cases}
-use Rattle.abc_base_graphs.specs.Graph.{IsReached}
+use Rattle.abc_base_graphs.specs.Graph.{AreReachMarks}
 use Rattle.abc_link_names.specs.Interfaces.{class_graph}
 use Rattle.abc_link_names.specs.Bases.{is_interface}
 use Rattle.abc_file_types.specs.declared.tables.Abc.{Abc}
@@ -42,12 +42,12 @@ next_unmarked v marks nodes n h e = skipped v marks nodes n h (λ m i. cc)
 pub next_class : (v : Abc) (marks : List Bool) (nodes : List ℕ) (n : ℕ) → ListsMarked v marks nodes n → is_interface v n ≡ false → ListsMarked v marks nodes (n + 1)
 next_class v marks nodes n h e = skipped v marks nodes n h (λ m i. cc)
 
-pub searched : (v : Abc) (g : List (List ℕ)) (k : ℕ) (marks marks2 : List Bool) (list given keys : List ℕ) → g ≡ class_graph v → IsReached g k marks → marks2 ≡ marks → ListsMarked v marks2 list (length marks2)
+pub searched : (v : Abc) (g : List (List ℕ)) (k : ℕ) (marks marks2 : List Bool) (list given keys : List ℕ) → g ≡ class_graph v → AreReachMarks g k marks → marks2 ≡ marks → ListsMarked v marks2 list (length marks2)
     → given ≡ list → keys ≡ given → IsSetOf v k keys
 searched v g k marks marks2 list given keys is_g r is_marks m is_given is_keys = subst (IsSetOf v k) (sym (is_keys ∙ is_given)) (record { sound = sound; complete = complete })
   where
-    reach : IsReached (class_graph v) k marks2
-    reach = subst (λ (ms : List Bool). IsReached (class_graph v) k ms) (sym is_marks) (subst (λ (h : List (List ℕ)). IsReached h k marks) is_g r)
+    reach : AreReachMarks (class_graph v) k marks2
+    reach = subst (λ (ms : List Bool). AreReachMarks (class_graph v) k ms) (sym is_marks) (subst (λ (h : List (List ℕ)). AreReachMarks h k marks) is_g r)
 
     sound : (y : ℕ) → Contains list y → IsAbove v k y
     sound y c = let p = m.sound y c in (p.1, reach.sound y (record { marked = p.0 }))

@@ -7,7 +7,7 @@ use Rattle.std.proofs.lemmas.Bool.{cases_lt}
 use Rattle.std.proofs.lemmas.List.{get_or_default}
 use Rattle.abc_link_names.specs.Interfaces.{class_graph}
 use Rattle.abc_file_types.specs.declared.tables.Abc.{Abc}
-use Rattle.abc_link_interfaces.specs.Sets.{AreSets, AreUnset, HasSets, IsAbove, IsSetOf, ListsBelow, Set, Settles, SettlesEach, is_settled, is_there, keys_at}
+use Rattle.abc_link_interfaces.specs.Sets.{AreSets, AreUnset, HasAllSets, IsAbove, IsSetOf, ListsBelow, Set, Settles, SettlesEach, is_settled, is_set_there, keys_at}
 use Rattle.abc_link_interfaces.proofs.Uniting.{known_set}
 use Rattle.abc_link_names.proofs.ItemsPairs.{any_found, any_makes}
 use Rattle.abc_link_interfaces.proofs.Graphs.{as_many}
@@ -39,7 +39,7 @@ put v old new k s a is lt e = subst (λ (ss : List (Option Set)). Settles v old 
   len = length-set old k (Some s);
   are = record { exact = λ x t f. exact x t f (elsewhere old k (Some s) x) };
   keeps = λ x f. keeps x f (elsewhere old k (Some s) x);
-  here = λ low. ap is_there (here old k (Some s) lt);
+  here = λ low. ap is_set_there (here old k (Some s) lt);
 })
   where
     exact : (x : ℕ) (t : Set) → slice_get (set old k (Some s)) x ≡ Some (Some t) → (x ≡ k) ⊎ (slice_get (set old k (Some s)) x ≡ slice_get old x) → IsSetOf v x t
@@ -50,8 +50,8 @@ put v old new k s a is lt e = subst (λ (ss : List (Option Set)). Settles v old 
     exact x t f (inr q) = a.exact x t (sym q ∙ f)
 
     keeps : (x : ℕ) → is_settled old x ≡ true → (x ≡ k) ⊎ (slice_get (set old k (Some s)) x ≡ slice_get old x) → is_settled (set old k (Some s)) x ≡ true
-    keeps x f (inl q) = ap (λ n. is_there (slice_get (set old k (Some s)) n)) q ∙ ap is_there (here old k (Some s) lt)
-    keeps x f (inr q) = ap is_there q ∙ f
+    keeps x f (inl q) = ap (λ n. is_set_there (slice_get (set old k (Some s)) n)) q ∙ ap is_set_there (here old k (Some s) lt)
+    keeps x f (inr q) = ap is_set_there q ∙ f
 
 -- ---- all sets
 
@@ -83,7 +83,7 @@ next v count old new nodes i k h s e = record { len = s.len ∙ h.len; are = s.a
         let at : get_or nodes j 0 ≡ k = ap (λ n. get_or nodes n 0) q ∙ e in
         ap (is_settled new) at ∙ s.here (let l = h.len in omega (arith, at, low, l))
 
-pub all_settled : (v : Abc) (g : List (List ℕ)) (sets : List (Option Set)) (nodes : List ℕ) → g ≡ class_graph v → SettlesEach v (length g) sets nodes (length nodes) → ListsBelow nodes (length g) → HasSets v sets
+pub all_settled : (v : Abc) (g : List (List ℕ)) (sets : List (Option Set)) (nodes : List ℕ) → g ≡ class_graph v → SettlesEach v (length g) sets nodes (length nodes) → ListsBelow nodes (length g) → HasAllSets v sets
 all_settled v g sets nodes is_g h l = record { are = h.are; all = all }
   where
     all : (k : ℕ) → k < length v.instances → is_settled sets k ≡ true
@@ -95,7 +95,7 @@ all_settled v g sets nodes is_g h l = record { are = h.are; all = all }
         sym (ap (is_settled sets) at) ∙ h.each c.0 c.1 (omega (arith, at, low))
 
 -- what a set of a class has
-pub has_above : (v : Abc) (sets : List (Option Set)) (k i : ℕ) (b : Bool) → HasSets v sets → k < length v.instances → b ≡ list_any (nat_eq i) (keys_at sets k) → IsTrue b ↔ IsAbove v k i
+pub has_above : (v : Abc) (sets : List (Option Set)) (k i : ℕ) (b : Bool) → HasAllSets v sets → k < length v.instances → b ≡ list_any (nat_eq i) (keys_at sets k) → IsTrue b ↔ IsAbove v k i
 has_above v sets k i b h lt e = (
   λ t. let f = any_found (nat_eq i) (keys_at sets k) 0 (sym e ∙ t) in
       let q : i ≡ get_or (keys_at sets k) f.0 0 = eqb-true i (get_or (keys_at sets k) f.0 0) f.2 in

@@ -17,7 +17,7 @@ pub record AddsEach (old new numbers : List ℕ) (n : ℕ) : Type 0 where
   pub only : (y : ℕ) → Contains new y → Contains old y ⊎ Contains numbers y
 
 -- some numbers were added to others, and nothing else
-pub record AddsAll (old new numbers : List ℕ) : Type 0 where
+pub record AddsNumbers (old new numbers : List ℕ) : Type 0 where
   pub keeps : (y : ℕ) → Contains old y → Contains new y
   pub adds : (y : ℕ) → Contains numbers y → Contains new y
   pub only : (y : ℕ) → Contains new y → Contains old y ⊎ Contains numbers y
@@ -37,13 +37,13 @@ pub record AreSets (v : Abc) (sets : List (Option Set)) : Type 0 where
 
 -- ---- the set of a class, if it is there
 
-abbrev pub is_there : Option (Option Set) → Bool
-is_there None = false
-is_there (Some None) = false
-is_there (Some (Some s)) = true
+abbrev pub is_set_there : Option (Option Set) → Bool
+is_set_there None = false
+is_set_there (Some None) = false
+is_set_there (Some (Some s)) = true
 
 abbrev pub is_settled : List (Option Set) → ℕ → Bool
-is_settled sets k = is_there (slice_get sets k)
+is_settled sets k = is_set_there (slice_get sets k)
 
 abbrev pub keys_in : Option (Option Set) → List ℕ
 keys_in None = []
@@ -54,13 +54,13 @@ abbrev pub keys_at : List (Option Set) → ℕ → List ℕ
 keys_at sets k = keys_in (slice_get sets k)
 
 -- what a class has of one that it leads to: that one itself, if it is an interface, and what that one has
-abbrev pub given_by : Abc → List (Option Set) → ℕ → List ℕ
-given_by v sets t = (if is_interface v t then t ∷ [] else []) ++ keys_at sets t
+abbrev pub interfaces_given_by : Abc → List (Option Set) → ℕ → List ℕ
+interfaces_given_by v sets t = (if is_interface v t then t ∷ [] else []) ++ keys_at sets t
 
 -- the numbers are what the first n of several classes give, or some of what all of them give
-pub record Gathers (v : Abc) (sets : List (Option Set)) (classes list : List ℕ) (n : ℕ) : Type 0 where
-  pub sound : (y : ℕ) → Contains list y → (t : ℕ) × Contains classes t × Contains (given_by v sets t) y
-  pub complete : (j y : ℕ) → j < n → Contains (given_by v sets (get_or classes j 0)) y → Contains list y
+pub record GathersInterfaces (v : Abc) (sets : List (Option Set)) (classes list : List ℕ) (n : ℕ) : Type 0 where
+  pub sound : (y : ℕ) → Contains list y → (t : ℕ) × Contains classes t × Contains (interfaces_given_by v sets t) y
+  pub complete : (j y : ℕ) → j < n → Contains (interfaces_given_by v sets (get_or classes j 0)) y → Contains list y
 
 -- no set is there
 pub record AreUnset (sets : List (Option Set)) (n : ℕ) : Type 0 where
@@ -90,6 +90,6 @@ pub record ListsBelow (nodes : List ℕ) (n : ℕ) : Type 0 where
   pub lists : (k : ℕ) → k < n → Contains nodes k
 
 -- all classes have their sets
-pub record HasSets (v : Abc) (sets : List (Option Set)) : Type 0 where
+pub record HasAllSets (v : Abc) (sets : List (Option Set)) : Type 0 where
   pub are : AreSets v sets
   pub all : (k : ℕ) → k < length v.instances → is_settled sets k ≡ true

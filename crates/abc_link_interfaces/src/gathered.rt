@@ -1,5 +1,5 @@
 ghost use Rattle.std.specs.Prelude.{◌≡◌, ◌∷◌, [], if◌then◌else◌, length, Contains, IfOk, IsTrue, OnOk};
-ghost use Rattle.abc_link_interfaces.specs.Sets.{AddsAll, AddsEach, Gathers, given_by, keys_at as keys_in_sets};
+ghost use Rattle.abc_link_interfaces.specs.Sets.{AddsNumbers, AddsEach, GathersInterfaces, interfaces_given_by, keys_at as keys_in_sets};
 ghost use Rattle.abc_link_names.specs.Bases.{is_interface as is_interface_class};
 
 use crate::set::NumberSet;
@@ -80,7 +80,8 @@ fn push_interface(
     abc: &Abc,
     class: u32,
 ) -> Result<(), NoMemory>
-    ensures list { OnOk result (AddsAll list.old.items list.new.items (if is_interface_class abc.now class then class ∷ [] else [])) }
+    ensures list { OnOk result (AddsNumbers list.old.items list.new.items
+        (if is_interface_class abc.now class then class ∷ [] else [])) }
 {
     if !is_interface(abc, class) {
         return Ok(());
@@ -97,7 +98,8 @@ fn push_given(
     sets: &Table<Option<NumberSet>>,
     class: u32,
 ) -> Result<(), NoMemory>
-    ensures list { OnOk result (AddsAll list.old.items list.new.items (given_by abc.now sets.now class)) }
+    ensures list { OnOk result
+        (AddsNumbers list.old.items list.new.items (interfaces_given_by abc.now sets.now class)) }
 {
     push_interface(list, places, abc, class)?;
     push_all(list, places, keys_at(sets, class))?;
@@ -113,7 +115,8 @@ pub(crate) fn given(
     places: &mut Vec<u32>,
     classes: &[u32],
 ) -> Result<Vec<u32>, NoMemory>
-    ensures { IfOk result (λ list. Gathers abc.now sets.now classes.now list.items (length classes.now)) }
+    ensures { IfOk result
+        (λ list. GathersInterfaces abc.now sets.now classes.now list.items (length classes.now)) }
 {
     let mut list = Vec::new(alloc);
     for class in classes {

@@ -25,7 +25,9 @@ fn interfaces_of(
     meanings: &Meanings<'_>,
     names: &[u32],
 ) -> Result<Table<u32>, NoMemory>
-    ensures { IfOk result (λ t. t ≡ flat_map (λ n. interfaces_named meanings.now.abc.now (resolve meanings.now.abc.now n)) names.now) }
+    ensures { IfOk result (λ t. t
+        ≡ flat_map (λ n. interfaces_named meanings.now.abc.now (resolve meanings.now.abc.now n))
+        names.now) }
 {
     let mut list = Table::new(alloc);
     for name in names {

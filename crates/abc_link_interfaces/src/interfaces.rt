@@ -1,5 +1,5 @@
 ghost use Rattle.std.specs.Prelude.{◌≡◌, ◌<◌, ◌↔◌, ◌^◌, length, IfOk, IsTrue};
-ghost use Rattle.abc_link_interfaces.specs.Sets.{HasSets, IsAbove};
+ghost use Rattle.abc_link_interfaces.specs.Sets.{HasAllSets, IsAbove};
 
 use crate::graph::class_graph;
 use crate::set::NumberSet;
@@ -20,7 +20,7 @@ impl Interfaces {
     /// The interfaces of all classes of a file.
     #[tactic(auto, using(crate::proofs::Graphs::is_graph, crate::proofs::Graphs::as_many))]
     pub fn new(alloc: Global, meanings: &Meanings<'_>) -> Result<Interfaces, NoMemory>
-        ensures { IfOk result (λ i. HasSets meanings.now.abc.now i.sets) }
+        ensures { IfOk result (λ i. HasAllSets meanings.now.abc.now i.sets) }
     {
         if meanings.abc.instances.len() > u32::MAX as usize {
             return Err(NoMemory);
@@ -34,7 +34,7 @@ impl Interfaces {
     /// Whether a class names an interface, itself, through its bases or through the interfaces' interfaces.
     #[tactic(auto, using(crate::proofs::Settling::has_above))]
     pub fn implements(&self, abc: &Abc, class: u32, interface: u32) -> bool
-        requires sets { HasSets abc.now self.now.sets }
+        requires sets { HasAllSets abc.now self.now.sets }
         requires known { class < length abc.now.instances }
         ensures { IsTrue result ↔ IsAbove abc.now class interface }
     {

@@ -17,13 +17,13 @@ pub(crate) struct NumberSet {
 
 impl Model for NumberSet {
     ghost use Rattle.std.specs.Prelude.{ℕ, List, nat_eq};
-    ghost use Rattle.abc_base_graphs.specs.Index.{Finds};
+    ghost use Rattle.abc_base_graphs.specs.Index.{FindsPlace};
 
     ghost Value = { List ℕ };
 
     ghost view = { λ s. s.numbers };
 
-    ghost invariant = { λ s. Finds nat_eq s.places s.numbers };
+    ghost invariant = { λ s. FindsPlace nat_eq s.places s.numbers };
 }
 
 impl NumberSet {

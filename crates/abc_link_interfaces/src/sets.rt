@@ -1,7 +1,7 @@
 ghost use Rattle.std.specs.Prelude.{◌≡◌, ◌+◌, ◌<◌, ◌^◌, false, length, nat_eq, not, IfOk, OnOk};
 ghost use Rattle.std.specs.List.{list_any};
-ghost use Rattle.abc_base_graphs.specs.Graph.{IsGraph, targets};
-ghost use Rattle.abc_link_interfaces.specs.Sets.{AreSets, AreUnset, HasSets, IsSetOf, ListsBelow, ListsMarked, Settles, SettlesEach, is_settled as is_settled_in, keys_at as keys_in_sets};
+ghost use Rattle.abc_base_graphs.specs.Graph.{IsGraph, leads_to};
+ghost use Rattle.abc_link_interfaces.specs.Sets.{AreSets, AreUnset, HasAllSets, IsSetOf, ListsBelow, ListsMarked, Settles, SettlesEach, is_settled as is_settled_in, keys_at as keys_in_sets};
 ghost use Rattle.abc_link_names.specs.Interfaces.{class_graph};
 
 use crate::gathered::{given, keys_at};
@@ -100,7 +100,7 @@ fn united(
 ) -> Result<NumberSet, NoMemory>
     requires graph { graph.now ≡ class_graph abc.now }
     requires sets { AreSets abc.now sets.now }
-    requires there { list_any (λ t. not (is_settled_in sets.now t)) (targets graph.now class) ≡ false }
+    requires there { list_any (λ t. not (is_settled_in sets.now t)) (leads_to graph.now class) ≡ false }
     ensures { IfOk result (λ s. IsSetOf abc.now class s) }
 {
     let list = given(alloc, abc, sets, places, targets_of(graph, class))?;
@@ -130,7 +130,7 @@ fn searched(
 /// What a class leads to.
 #[tactic(auto, using(abc_base::proofs::Past::past_end))]
 fn targets_of(graph: &Table<Table<u32>>, class: u32) -> &[u32]
-    ensures { result.now ≡ targets graph.now class }
+    ensures { result.now ≡ leads_to graph.now class }
 {
     match graph.find(class as usize) {
         Some(list) => list.as_slice(),
@@ -244,7 +244,7 @@ pub(crate) fn sets_of(
     requires in_range { IsGraph graph.now }
     requires few { length graph.now < 2 ^ 32 }
     requires nodes { ListsBelow nodes.now (length graph.now) }
-    ensures { IfOk result (λ sets. HasSets abc.now sets) }
+    ensures { IfOk result (λ sets. HasAllSets abc.now sets) }
 {
     let sets = settle_each(alloc, abc, graph, nodes)?;
     Ok(sets)

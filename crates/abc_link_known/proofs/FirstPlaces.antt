@@ -10,7 +10,7 @@ use Rattle.abc_base_graphs.specs.Groups.{places_from}
 use Rattle.abc_base_graphs.proofs.Numbering.{both_ways}
 use Rattle.abc_link_names.specs.Keys.{keys_eq}
 use Rattle.abc_link_names.specs.declared.keys.NameKey.{NameKey}
-use Rattle.abc_link_known.specs.Slates.{is_at, earlier, item_at}
+use Rattle.abc_link_known.specs.Slates.{is_at, earlier_place, item_at}
 use Rattle.abc_link_known.specs.Spots.{firsts_of}
 
 -- what is found passes
@@ -46,15 +46,15 @@ nothing_first f never n [] = refl
 nothing_first f never n (x ∷ xs) = ap (λ b. cond b (Some n) (first_from f (n + 1) xs)) (never x) ∙ nothing_first f never (n + 1) xs
 
 -- the first that passes one of two tests
-pub first_of_two : {K : Type 0} (f g : K → Bool) (n : ℕ) (xs : List K) → earlier (first_from f n xs) (first_from g n xs) ≡ first_from (λ x. f x || g x) n xs
+pub first_of_two : {K : Type 0} (f g : K → Bool) (n : ℕ) (xs : List K) → earlier_place (first_from f n xs) (first_from g n xs) ≡ first_from (λ x. f x || g x) n xs
 first_of_two f g n [] = refl
 first_of_two f g n (x ∷ xs) =
     go (f x) (g x) (first_from f (n + 1) xs) (first_from g (n + 1) xs) (first_of_two f g (n + 1) xs)
     (λ k e. let h = hit f (n + 1) xs x k e in let q : k ≡ n + 1 + h.0 = h.1 in omega arith)
     (λ k e. let h = hit g (n + 1) xs x k e in let q : k ≡ n + 1 + h.0 = h.1 in omega arith)
   where
-    go : (b c : Bool) (p q : Option ℕ) → earlier p q ≡ first_from (λ x. f x || g x) (n + 1) xs → ((k : ℕ) → p ≡ Some k → n < k) → ((k : ℕ) → q ≡ Some k → n < k)
-        → earlier (cond b (Some n) p) (cond c (Some n) q) ≡ cond (b || c) (Some n) (first_from (λ x. f x || g x) (n + 1) xs)
+    go : (b c : Bool) (p q : Option ℕ) → earlier_place p q ≡ first_from (λ x. f x || g x) (n + 1) xs → ((k : ℕ) → p ≡ Some k → n < k) → ((k : ℕ) → q ≡ Some k → n < k)
+        → earlier_place (cond b (Some n) p) (cond c (Some n) q) ≡ cond (b || c) (Some n) (first_from (λ x. f x || g x) (n + 1) xs)
     go true true p q more low high = ap Some (omega arith)
     go true false p None more low high = refl
     go true false p (Some k) more low high = let lt = high k refl in ap Some (omega arith)

@@ -10,15 +10,15 @@ use Rattle.abc_file_types.specs.declared.tables.Abc.{Abc}
 use Rattle.abc_link_names.specs.declared.named.PlainName.{PlainName}
 use Rattle.abc_link_names.specs.declared.named.Spaces.TheVariants as forms
 use Rattle.abc_link_names.specs.declared.tables.NameTables.{NameTables}
-use Rattle.abc_link_names.specs.Meaning.{holds, is_class_named}
-use Rattle.abc_link_names.specs.Numbers.{AreNames, number, classes_of}
+use Rattle.abc_link_names.specs.Meaning.{holds_space, is_class_named}
+use Rattle.abc_link_names.specs.Numbers.{AreNames, number_of_text, classes_of}
 use Rattle.abc_link_names.specs.Pool.{set as set_of}
 use Rattle.abc_link_known.specs.Spots.{spot_of_class, spot_of_space}
-use Rattle.abc_link_known.specs.Slates.{IsMarked, is_at, mark_spot}
+use Rattle.abc_link_known.specs.Slates.{AreSpotsMarked, is_at, mark_spot}
 use Rattle.abc_link_known.proofs.Spotted.{first_by_spots, spot_below}
 
 -- the list that a slate is after it was wiped
-pub none_marked : (v : Abc) (numbers : List ℕ) (slate : List (Option ℕ)) (n : ℕ) → slate ≡ replicate n None → IsMarked v numbers slate []
+pub none_marked : (v : Abc) (numbers : List ℕ) (slate : List (Option ℕ)) (n : ℕ) → slate ≡ replicate n None → AreSpotsMarked v numbers slate []
 none_marked v numbers slate n e = record {
   marked = λ p lt.
       ap (λ (l : List (Option ℕ)). is_some (get_or l p None)) e
@@ -50,7 +50,7 @@ any_push f (y ∷ xs) x = ap (λ b. f y || b) (any_push f xs x) ∙ go (f y) (f 
     go false true c = refl
     go false false c = refl
 
-pub next_marked : (v : Abc) (numbers : List ℕ) (old new : List (Option ℕ)) (spaces : List ℕ) (i : ℕ) → IsMarked v numbers old (take i spaces) → new ≡ mark_spot old (spot_of_space v numbers (get_or spaces i 0)) → i < length spaces → IsMarked v numbers new (take (i + 1) spaces)
+pub next_marked : (v : Abc) (numbers : List ℕ) (old new : List (Option ℕ)) (spaces : List ℕ) (i : ℕ) → AreSpotsMarked v numbers old (take i spaces) → new ≡ mark_spot old (spot_of_space v numbers (get_or spaces i 0)) → i < length spaces → AreSpotsMarked v numbers new (take (i + 1) spaces)
 next_marked v numbers old new spaces i m is lt = record {
   marked = λ p l.
       let a = get_or spaces i 0 in
@@ -62,13 +62,13 @@ next_marked v numbers old new spaces i m is lt = record {
       ∙ ap (list_any (λ b. is_at (spot_of_space v numbers b) p)) (sym (take_more spaces i 0 lt));
 }
 
-pub all_marked : (v : Abc) (numbers : List ℕ) (slate : List (Option ℕ)) (spaces : List ℕ) (n : ℕ) → IsMarked v numbers slate (take n spaces) → length spaces ≤ n → IsMarked v numbers slate spaces
+pub all_marked : (v : Abc) (numbers : List ℕ) (slate : List (Option ℕ)) (spaces : List ℕ) (n : ℕ) → AreSpotsMarked v numbers slate (take n spaces) → length spaces ≤ n → AreSpotsMarked v numbers slate spaces
 all_marked v numbers slate spaces n m le = record { marked = λ p lt. m.marked p lt ∙ ap (list_any (λ b. is_at (spot_of_space v numbers b) p)) (take_all n spaces le) }
 
 -- the first class of a text at whose spot something stands
-pub first_in_set : (v : Abc) (t : NameTables) (slate : List (Option ℕ)) (n : PlainName) (k : ℕ) → AreNames v t → IsMarked v t.numbers slate (set_of v k) → length slate ≡ length v.instances → n.spaces ≡ forms.Set k
-    → find (λ c. is_some (get_or slate (spot_of_class v t.numbers c) None)) (classes_of v t.numbers (number t.numbers n.string)) ≡ first (is_class_named v n) v.instances
+pub first_in_set : (v : Abc) (t : NameTables) (slate : List (Option ℕ)) (n : PlainName) (k : ℕ) → AreNames v t → AreSpotsMarked v t.numbers slate (set_of v k) → length slate ≡ length v.instances → n.spaces ≡ forms.Set k
+    → find (λ c. is_some (get_or slate (spot_of_class v t.numbers c) None)) (classes_of v t.numbers (number_of_text t.numbers n.string)) ≡ first (is_class_named v n) v.instances
 first_in_set v t slate n k h m len e =
     first_by_spots v t n (set_of v k) (λ c. is_some (get_or slate (spot_of_class v t.numbers c) None)) h
-    (record { listed = λ a. ap (λ s. holds v s a) e })
+    (record { listed = λ a. ap (λ s. holds_space v s a) e })
     (λ c lt. let b = spot_below v t.numbers c lt in m.marked (spot_of_class v t.numbers c) (omega arith))

@@ -19,14 +19,14 @@ use Rattle.abc_link_names.specs.declared.named.PlainName.{PlainName}
 use Rattle.abc_link_names.specs.declared.tables.NameTables.{NameTables}
 use Rattle.abc_link_names.specs.Instances.{instance_at, no_instance}
 use Rattle.abc_link_names.specs.Keys.{keys_eq}
-use Rattle.abc_link_names.specs.Meaning.{class_name_of, has_name, holds, is_class_named}
-use Rattle.abc_link_names.specs.Numbers.{AreNames, number, key_of, class_keys, classes_of}
+use Rattle.abc_link_names.specs.Meaning.{class_name_of, is_definite_name, holds_space, is_class_named}
+use Rattle.abc_link_names.specs.Numbers.{AreNames, number_of_text, key_of_name, class_keys, classes_of}
 use Rattle.abc_link_names.specs.Pool.{is_private, same_space, shared_code, space}
 use Rattle.abc_link_names.proofs.InGroups.{first_class}
 use Rattle.abc_link_names.proofs.SameKeys.{same_keys}
-use Rattle.abc_link_known.specs.Spots.{AreSpots, HasSpots, key_of_class, key_of_space, keys_of_classes, no_key, spot_of_class, spot_of_space}
+use Rattle.abc_link_known.specs.Spots.{AreSpots, HasSpots, key_of_class, key_of_space, keys_of_classes, no_spot_key, spot_of_class, spot_of_space}
 use Rattle.abc_link_known.specs.declared.spots.Spots.{Spots}
-use Rattle.abc_link_known.specs.Slates.{IsListed, has_spot, has_spot_among}
+use Rattle.abc_link_known.specs.Slates.{IsSpaceList, has_spot, has_spot_among}
 use Rattle.abc_link_known.proofs.FirstPlaces.{found_alike, own_first, same_among}
 
 pub no_spots : (v : Abc) (numbers : List ℕ) (m : Map NameKey) → HasSpots v numbers m [] 0
@@ -94,15 +94,15 @@ abbrev same_among_in : Abc → Option DefiniteName → List ℕ → Bool
 same_among_in v None list = false
 same_among_in v (Some d) list = list_any (same_space v d.ns) list
 
-no_key_apart : (v : Abc) (numbers : List ℕ) (a : ℕ) → keys_eq no_key (key_of_space v numbers a) ≡ false
+no_key_apart : (v : Abc) (numbers : List ℕ) (a : ℕ) → keys_eq no_spot_key (key_of_space v numbers a) ≡ false
 no_key_apart v numbers a = go (is_private (space v a).kind)
   where
     t : ℕ
-    t = number numbers 0
+    t = number_of_text numbers 0
 
-    go : (b : Bool) → keys_eq no_key (cond b (record { text = t; code = 0x05; name = 0; place = a }) (record { text = t; code = shared_code (space v a).kind; name = number numbers (space v a).name; place = 0 })) ≡ false
+    go : (b : Bool) → keys_eq no_spot_key (cond b (record { text = t; code = 0x05; name = 0; place = a }) (record { text = t; code = shared_code (space v a).kind; name = number_of_text numbers (space v a).name; place = 0 })) ≡ false
     go true = not_both (nat_eq 0 t) (nat_eq 0 0x05) (nat_eq 0 0 && nat_eq 0 a) refl
-    go false = not_both (nat_eq 0 t) (nat_eq 0 (shared_code (space v a).kind)) (nat_eq 0 (number numbers (space v a).name) && nat_eq 0 0) (code_not_zero (space v a).kind)
+    go false = not_both (nat_eq 0 t) (nat_eq 0 (shared_code (space v a).kind)) (nat_eq 0 (number_of_text numbers (space v a).name) && nat_eq 0 0) (code_not_zero (space v a).kind)
 
 key_tells : (v : Abc) (t : NameTables) (d : Option DefiniteName) (a : ℕ) → AreNames v t → keys_eq (key_of_class v t.numbers d) (key_of_space v t.numbers a) ≡ same_in v d a
 key_tells v t None a h = no_key_apart v t.numbers a
@@ -113,15 +113,15 @@ as_many v numbers = length-map v.instances (λ (i : Instance). key_of_class v nu
 
 class_tells : (v : Abc) (t : NameTables) (a c : ℕ) → AreNames v t → c < length v.instances → has_spot v t.numbers a c ≡ same_in v (class_name_of v (instance_at v c)) a
 class_tells v t a c h lt =
-    found_alike (keys_of_classes v t.numbers) (key_of_space v t.numbers a) no_key c (omega (arith, as_many v t.numbers))
-    ∙ ap (λ k. keys_eq k (key_of_space v t.numbers a)) (get_or-map (λ (i : Instance). key_of_class v t.numbers (class_name_of v i)) v.instances c no_instance no_key lt)
+    found_alike (keys_of_classes v t.numbers) (key_of_space v t.numbers a) no_spot_key c (omega (arith, as_many v t.numbers))
+    ∙ ap (λ k. keys_eq k (key_of_space v t.numbers a)) (get_or-map (λ (i : Instance). key_of_class v t.numbers (class_name_of v i)) v.instances c no_instance no_spot_key lt)
     ∙ key_tells v t (class_name_of v (instance_at v c)) a h
 
 -- the spot of a class is the number of a class
 pub spot_below : (v : Abc) (numbers : List ℕ) (c : ℕ) → c < length v.instances → spot_of_class v numbers c < length v.instances
 spot_below v numbers c lt =
     let m = as_many v numbers in
-    let own = own_first (keys_of_classes v numbers) no_key c (omega arith) in
+    let own = own_first (keys_of_classes v numbers) no_spot_key c (omega arith) in
     let l : spot_of_class v numbers c < length (keys_of_classes v numbers) = own.1 in
     omega arith
 
@@ -142,32 +142,32 @@ class_tells_all v t list c h lt = any_same (λ a. has_spot v t.numbers a c) (sam
 
 -- ---- a class of a name's text is named where it has one of the name's spots
 
-named_by_spots : (v : Abc) (t : NameTables) (n : PlainName) (list : List ℕ) (c : ℕ) → AreNames v t → IsListed v n.spaces list → c < length v.instances
-    → nat_eq (number t.numbers n.string) (key_of t.numbers (class_name_of v (instance_at v c))) ≡ true → has_spot_among v t.numbers list c ≡ is_class_named v n (instance_at v c)
+named_by_spots : (v : Abc) (t : NameTables) (n : PlainName) (list : List ℕ) (c : ℕ) → AreNames v t → IsSpaceList v n.spaces list → c < length v.instances
+    → nat_eq (number_of_text t.numbers n.string) (key_of_name t.numbers (class_name_of v (instance_at v c))) ≡ true → has_spot_among v t.numbers list c ≡ is_class_named v n (instance_at v c)
 named_by_spots v t n list c h s lt is = class_tells_all v t list c h lt ∙ go (class_name_of v (instance_at v c)) is
   where
-    go : (d : Option DefiniteName) → nat_eq (number t.numbers n.string) (key_of t.numbers d) ≡ true → same_among_in v d list ≡ has_name v n d
+    go : (d : Option DefiniteName) → nat_eq (number_of_text t.numbers n.string) (key_of_name t.numbers d) ≡ true → same_among_in v d list ≡ is_definite_name v n d
     go None e = refl
     go (Some d) e =
         sym (s.listed d.ns)
-        ∙ ap (λ b. b && holds v n.spaces d.ns) (sym e ∙ h.same n.string d.string)
+        ∙ ap (λ b. b && holds_space v n.spaces d.ns) (sym e ∙ h.same n.string d.string)
 
 -- a test of the classes of a text that tells which of them have a name's spots finds the first class of the name
-pub first_by_spots : (v : Abc) (t : NameTables) (n : PlainName) (list : List ℕ) (f : ℕ → Bool) → AreNames v t → IsListed v n.spaces list
+pub first_by_spots : (v : Abc) (t : NameTables) (n : PlainName) (list : List ℕ) (f : ℕ → Bool) → AreNames v t → IsSpaceList v n.spaces list
     → ((c : ℕ) → c < length v.instances → f c ≡ has_spot_among v t.numbers list c)
-    → find f (classes_of v t.numbers (number t.numbers n.string)) ≡ first (is_class_named v n) v.instances
+    → find f (classes_of v t.numbers (number_of_text t.numbers n.string)) ≡ first (is_class_named v n) v.instances
 first_by_spots v t n list f h s tells =
-    same_among f (λ c. is_class_named v n (instance_at v c)) (nat_eq (number t.numbers n.string)) 0 0 (class_keys v t.numbers) agree
+    same_among f (λ c. is_class_named v n (instance_at v c)) (nat_eq (number_of_text t.numbers n.string)) 0 0 (class_keys v t.numbers) agree
     ∙ first_class v t n h
   where
     many : length (class_keys v t.numbers) ≡ length v.instances
-    many = length-map v.instances (λ (i : Instance). key_of t.numbers (class_name_of v i))
+    many = length-map v.instances (λ (i : Instance). key_of_name t.numbers (class_name_of v i))
 
-    agree : (j : ℕ) → j < length (class_keys v t.numbers) → nat_eq (number t.numbers n.string) (get_or (class_keys v t.numbers) j 0) ≡ true → f (0 + j) ≡ is_class_named v n (instance_at v (0 + j))
+    agree : (j : ℕ) → j < length (class_keys v t.numbers) → nat_eq (number_of_text t.numbers n.string) (get_or (class_keys v t.numbers) j 0) ≡ true → f (0 + j) ≡ is_class_named v n (instance_at v (0 + j))
     agree j lt is =
         let z : 0 + j ≡ j = omega arith in
         let l : j < length v.instances = omega (arith, many) in
-        let e : get_or (class_keys v t.numbers) j 0 ≡ key_of t.numbers (class_name_of v (instance_at v j)) = get_or-map (λ (i : Instance). key_of t.numbers (class_name_of v i)) v.instances j no_instance 0 l in
+        let e : get_or (class_keys v t.numbers) j 0 ≡ key_of_name t.numbers (class_name_of v (instance_at v j)) = get_or-map (λ (i : Instance). key_of_name t.numbers (class_name_of v i)) v.instances j no_instance 0 l in
         ap f z ∙ tells j l
-        ∙ named_by_spots v t n list j h s l (ap (nat_eq (number t.numbers n.string)) (sym e) ∙ is)
+        ∙ named_by_spots v t n list j h s l (ap (nat_eq (number_of_text t.numbers n.string)) (sym e) ∙ is)
         ∙ ap (λ m. is_class_named v n (instance_at v m)) (sym z)

@@ -4,7 +4,7 @@ use Rattle.std.specs.declared.option.Option.{Option}
 use Rattle.std.specs.List.{list_any}
 use Rattle.abc_base_graphs.specs.Index.{first}
 use Rattle.abc_file_types.specs.declared.tables.Abc.{Abc}
-use Rattle.abc_link_names.specs.Meaning.{holds}
+use Rattle.abc_link_names.specs.Meaning.{holds_space}
 use Rattle.abc_link_names.specs.Pool.{same_space}
 use Rattle.abc_link_names.specs.declared.named.Spaces.{Spaces}
 use Rattle.abc_link_known.specs.Spots.{spot_of_space, spot_of_class}
@@ -27,22 +27,22 @@ abbrev pub has_spot_among : Abc → List ℕ → List ℕ → ℕ → Bool
 has_spot_among v numbers spaces c = list_any (λ a. has_spot v numbers a c) spaces
 
 -- something stands at just the spots of these namespaces
-pub record IsMarked (v : Abc) (numbers : List ℕ) (slate : List (Option ℕ)) (spaces : List ℕ) : Type 0 where
+pub record AreSpotsMarked (v : Abc) (numbers : List ℕ) (slate : List (Option ℕ)) (spaces : List ℕ) : Type 0 where
   pub marked : (p : ℕ) → p < length slate → is_some (get_or slate p None) ≡ list_any (λ a. is_at (spot_of_space v numbers a) p) spaces
 
 -- at each place stands where the first of these classes is whose spot that is
-pub record HasFirsts (v : Abc) (numbers : List ℕ) (slate : List (Option ℕ)) (classes : List ℕ) : Type 0 where
+pub record HasFirstClasses (v : Abc) (numbers : List ℕ) (slate : List (Option ℕ)) (classes : List ℕ) : Type 0 where
   pub firsts : (p : ℕ) → p < length slate → get_or slate p None ≡ first (λ c. nat_eq p (spot_of_class v numbers c)) classes
 
 -- the namespaces of a name are these
-pub record IsListed (v : Abc) (spaces : Spaces) (list : List ℕ) : Type 0 where
-  pub listed : (a : ℕ) → holds v spaces a ≡ list_any (same_space v a) list
+pub record IsSpaceList (v : Abc) (spaces : Spaces) (list : List ℕ) : Type 0 where
+  pub listed : (a : ℕ) → holds_space v spaces a ≡ list_any (same_space v a) list
 
 abbrev pub item_at : List ℕ → Option ℕ → Option ℕ
 item_at xs None = None
 item_at xs (Some p) = slice_get xs p
 
-abbrev pub earlier : Option ℕ → Option ℕ → Option ℕ
-earlier None b = b
-earlier (Some a) None = Some a
-earlier (Some a) (Some b) = Some (min a b)
+abbrev pub earlier_place : Option ℕ → Option ℕ → Option ℕ
+earlier_place None b = b
+earlier_place (Some a) None = Some a
+earlier_place (Some a) (Some b) = Some (min a b)

@@ -15,11 +15,11 @@ abbrev pub key_of_space : Abc → List ℕ → ℕ → NameKey
 key_of_space v numbers a = name_key v numbers (record { ns = a; string = 0 })
 
 -- no namespace has this key, since no kind has the code 0
-abbrev pub no_key : NameKey
-no_key = record { text = 0; code = 0; name = 0; place = 0 }
+abbrev pub no_spot_key : NameKey
+no_spot_key = record { text = 0; code = 0; name = 0; place = 0 }
 
 abbrev pub key_of_class : Abc → List ℕ → Option DefiniteName → NameKey
-key_of_class v numbers None = no_key
+key_of_class v numbers None = no_spot_key
 key_of_class v numbers (Some d) = key_of_space v numbers d.ns
 
 abbrev pub keys_of_classes : Abc → List ℕ → List NameKey

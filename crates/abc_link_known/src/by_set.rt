@@ -1,10 +1,10 @@
 ghost use Rattle.std.specs.Prelude.{◌≡◌, None, Some, true, find, get_or, is_some, length, OnOk};
 ghost use Rattle.abc_base_graphs.specs.Index.{first};
-ghost use Rattle.abc_link_names.specs.Meaning.{holds_public, is_class_named, meant};
+ghost use Rattle.abc_link_names.specs.Meaning.{holds_public, is_class_named, meaning_of_name};
 ghost use Rattle.abc_link_names.specs.Meanings.{AreKnown};
 ghost use Rattle.abc_link_names.specs.Pool.{set as set_of};
 ghost use Rattle.abc_link_names.specs.declared.named.Spaces.TheVariants as forms;
-ghost use Rattle.abc_link_known.specs.Slates.{IsMarked, mark_spot};
+ghost use Rattle.abc_link_known.specs.Slates.{AreSpotsMarked, mark_spot};
 ghost use Rattle.abc_link_known.specs.Spots.{spot_of_class};
 
 use crate::costly::{Way, grouped, one_more};
@@ -47,7 +47,8 @@ fn names_by_set(alloc: Global, ways: &Table<Way>) -> Result<IndexMap<u32, Table<
 impl Finder<'_> {
     /// Marks the spots of some namespaces on a slate, and no others.
     fn mark_spots(&self, slate: &mut Slate, spaces: &[u32]) -> Result<(), NoMemory>
-        ensures marked { OnOk result (IsMarked self.now.names.abc.now self.now.names.tables.now.numbers slate.new spaces.now) }
+        ensures marked { OnOk result
+            (AreSpotsMarked self.now.names.abc.now self.now.names.tables.now.numbers slate.new spaces.now) }
         ensures len { OnOk result (length slate.new ≡ length slate.old) }
     {
         slate.wipe()?;
@@ -59,14 +60,19 @@ impl Finder<'_> {
 
     /// Whether the spot of a class is marked.
     fn is_marked(&self, slate: &Slate, class: u32) -> bool
-        ensures { result ≡ is_some (get_or slate.now (spot_of_class self.now.names.abc.now self.now.names.tables.now.numbers class) None) }
+        ensures { result
+            ≡ is_some (get_or slate.now
+            (spot_of_class self.now.names.abc.now self.now.names.tables.now.numbers class) None) }
     {
         slate.at(self.spot_of_class(class)).is_some()
     }
 
     /// The first of some classes whose spots are marked.
     fn first_marked(&self, slate: &Slate, classes: &[u32]) -> Option<u32>
-        ensures { result ≡ find (λ c. is_some (get_or slate.now (spot_of_class self.now.names.abc.now self.now.names.tables.now.numbers c) None)) classes.now }
+        ensures { result
+            ≡ find (λ c. is_some (get_or slate.now
+            (spot_of_class self.now.names.abc.now self.now.names.tables.now.numbers c) None))
+            classes.now }
     {
         for class in classes {
             if self.is_marked(slate, *class) {
@@ -78,10 +84,12 @@ impl Finder<'_> {
 
     /// The first class that a name with a set names, where the spots of the set are marked.
     fn class_in_set(&self, slate: &Slate, name: PlainName, set: u32) -> Option<u32>
-        requires marked { IsMarked self.now.names.abc.now self.now.names.tables.now.numbers slate.now (set_of self.now.names.abc.now set) }
+        requires marked { AreSpotsMarked self.now.names.abc.now self.now.names.tables.now.numbers slate.now
+            (set_of self.now.names.abc.now set) }
         requires places { length slate.now ≡ length self.now.names.abc.now.instances }
         requires spaces { name.spaces ≡ forms.Set set }
-        ensures { result ≡ first (is_class_named self.now.names.abc.now name) self.now.names.abc.now.instances }
+        ensures { result
+            ≡ first (is_class_named self.now.names.abc.now name) self.now.names.abc.now.instances }
     {
         self.first_marked(slate, self.names.classes_of(self.names.number(name.string)))
     }
@@ -95,11 +103,12 @@ impl Finder<'_> {
         set: u32,
         public: bool,
     ) -> Option<Named>
-        requires marked { IsMarked self.now.names.abc.now self.now.names.tables.now.numbers slate.now (set_of self.now.names.abc.now set) }
+        requires marked { AreSpotsMarked self.now.names.abc.now self.now.names.tables.now.numbers slate.now
+            (set_of self.now.names.abc.now set) }
         requires places { length slate.now ≡ length self.now.names.abc.now.instances }
         requires spaces { name.spaces ≡ forms.Set set }
         requires public { public ≡ holds_public self.now.names.abc.now (forms.Set set) }
-        ensures { result ≡ meant self.now.names.abc.now (Some name) }
+        ensures { result ≡ meaning_of_name self.now.names.abc.now (Some name) }
     {
         match self.class_in_set(slate, name, set) {
             Some(class) => Some(Named::Class(class)),
@@ -116,7 +125,8 @@ impl Finder<'_> {
         name: u32,
         known: &mut Table<Option<Known>>,
     )
-        requires marked { IsMarked self.now.names.abc.now self.now.names.tables.now.numbers slate.now (set_of self.now.names.abc.now set) }
+        requires marked { AreSpotsMarked self.now.names.abc.now self.now.names.tables.now.numbers slate.now
+            (set_of self.now.names.abc.now set) }
         requires places { length slate.now ≡ length self.now.names.abc.now.instances }
         requires public { public ≡ holds_public self.now.names.abc.now (forms.Set set) }
         requires known { AreKnown self.now.names.abc.now known.old }

@@ -1,11 +1,11 @@
 ghost use Rattle.std.specs.Prelude.{◌≡◌, ◌<◌, ◌^◌, None, Some, length, OnOk};
 ghost use Rattle.abc_base_graphs.specs.Index.{first};
-ghost use Rattle.abc_link_names.specs.Meaning.{is_class_named, meant, resolve};
+ghost use Rattle.abc_link_names.specs.Meaning.{is_class_named, meaning_of_name, resolve};
 ghost use Rattle.abc_link_names.specs.Meanings.{AreKnown};
-ghost use Rattle.abc_link_names.specs.Numbers.{classes_of, number};
+ghost use Rattle.abc_link_names.specs.Numbers.{classes_of, number_of_text};
 ghost use Rattle.abc_link_names.specs.Pool.{name as name_of, plain_name};
 ghost use Rattle.abc_link_names.specs.declared.named.Spaces.TheVariants as forms;
-ghost use Rattle.abc_link_known.specs.Slates.{HasFirsts, IsListed, earlier as earlier_of, has_spot, has_spot_among, item_at};
+ghost use Rattle.abc_link_known.specs.Slates.{HasFirstClasses, IsSpaceList, earlier_place as earlier_of, has_spot, has_spot_among, item_at};
 
 use crate::costly::{Way, grouped, one_more};
 use crate::finder::Finder;
@@ -50,7 +50,8 @@ impl Finder<'_> {
     /// Writes at the spot of each of some classes where the first of them stands that has it, and nothing else.
     fn write_firsts(&self, slate: &mut Slate, classes: &[u32]) -> Result<(), NoMemory>
         requires { length classes.now < 2 ^ 32 }
-        ensures firsts { OnOk result (HasFirsts self.now.names.abc.now self.now.names.tables.now.numbers slate.new classes.now) }
+        ensures firsts { OnOk result
+            (HasFirstClasses self.now.names.abc.now self.now.names.tables.now.numbers slate.new classes.now) }
         ensures len { OnOk result (length slate.new ≡ length slate.old) }
     {
         slate.wipe()?;
@@ -62,9 +63,11 @@ impl Finder<'_> {
 
     /// Where the first of some classes stands that has the spot of a namespace.
     fn place_of(&self, slate: &Slate, classes: &[u32], space: u32) -> Option<u32>
-        requires firsts { HasFirsts self.now.names.abc.now self.now.names.tables.now.numbers slate.now classes.now }
+        requires firsts { HasFirstClasses self.now.names.abc.now self.now.names.tables.now.numbers slate.now
+            classes.now }
         requires places { length slate.now ≡ length self.now.names.abc.now.instances }
-        ensures { result ≡ first (has_spot self.now.names.abc.now self.now.names.tables.now.numbers space) classes.now }
+        ensures { result
+            ≡ first (has_spot self.now.names.abc.now self.now.names.tables.now.numbers space) classes.now }
     {
         let _classes = classes;
         match self.spot_of_space(space) {
@@ -75,9 +78,12 @@ impl Finder<'_> {
 
     /// Where the first of some classes stands that has the spot of one of several namespaces.
     fn first_place(&self, slate: &Slate, classes: &[u32], spaces: &[u32]) -> Option<u32>
-        requires firsts { HasFirsts self.now.names.abc.now self.now.names.tables.now.numbers slate.now classes.now }
+        requires firsts { HasFirstClasses self.now.names.abc.now self.now.names.tables.now.numbers slate.now
+            classes.now }
         requires places { length slate.now ≡ length self.now.names.abc.now.instances }
-        ensures { result ≡ first (has_spot_among self.now.names.abc.now self.now.names.tables.now.numbers spaces.now) classes.now }
+        ensures { result
+            ≡ first (has_spot_among self.now.names.abc.now self.now.names.tables.now.numbers spaces.now)
+            classes.now }
     {
         let mut first = None;
         for space in spaces {
@@ -94,11 +100,15 @@ impl Finder<'_> {
         name: PlainName,
         spaces: &[u32],
     ) -> Option<u32>
-        requires firsts { HasFirsts self.now.names.abc.now self.now.names.tables.now.numbers slate.now classes.now }
+        requires firsts { HasFirstClasses self.now.names.abc.now self.now.names.tables.now.numbers slate.now
+            classes.now }
         requires places { length slate.now ≡ length self.now.names.abc.now.instances }
-        requires classes { classes.now ≡ classes_of self.now.names.abc.now self.now.names.tables.now.numbers (number self.now.names.tables.now.numbers name.string) }
-        requires spaces { IsListed self.now.names.abc.now name.spaces spaces.now }
-        ensures { result ≡ first (is_class_named self.now.names.abc.now name) self.now.names.abc.now.instances }
+        requires classes { classes.now
+            ≡ classes_of self.now.names.abc.now self.now.names.tables.now.numbers
+            (number_of_text self.now.names.tables.now.numbers name.string) }
+        requires spaces { IsSpaceList self.now.names.abc.now name.spaces spaces.now }
+        ensures { result
+            ≡ first (is_class_named self.now.names.abc.now name) self.now.names.abc.now.instances }
     {
         class_at(classes, self.first_place(slate, classes, spaces))
     }
@@ -111,11 +121,14 @@ impl Finder<'_> {
         name: PlainName,
         spaces: &[u32],
     ) -> Option<Named>
-        requires firsts { HasFirsts self.now.names.abc.now self.now.names.tables.now.numbers slate.now classes.now }
+        requires firsts { HasFirstClasses self.now.names.abc.now self.now.names.tables.now.numbers slate.now
+            classes.now }
         requires places { length slate.now ≡ length self.now.names.abc.now.instances }
-        requires classes { classes.now ≡ classes_of self.now.names.abc.now self.now.names.tables.now.numbers (number self.now.names.tables.now.numbers name.string) }
-        requires spaces { IsListed self.now.names.abc.now name.spaces spaces.now }
-        ensures { result ≡ meant self.now.names.abc.now (Some name) }
+        requires classes { classes.now
+            ≡ classes_of self.now.names.abc.now self.now.names.tables.now.numbers
+            (number_of_text self.now.names.tables.now.numbers name.string) }
+        requires spaces { IsSpaceList self.now.names.abc.now name.spaces spaces.now }
+        ensures { result ≡ meaning_of_name self.now.names.abc.now (Some name) }
     {
         match self.class_among(slate, classes, name, spaces) {
             Some(class) => Some(Named::Class(class)),
@@ -133,11 +146,14 @@ impl Finder<'_> {
         name: PlainName,
         space: u32,
     ) -> Option<Named>
-        requires firsts { HasFirsts self.now.names.abc.now self.now.names.tables.now.numbers slate.now classes.now }
+        requires firsts { HasFirstClasses self.now.names.abc.now self.now.names.tables.now.numbers slate.now
+            classes.now }
         requires places { length slate.now ≡ length self.now.names.abc.now.instances }
-        requires classes { classes.now ≡ classes_of self.now.names.abc.now self.now.names.tables.now.numbers (number self.now.names.tables.now.numbers name.string) }
+        requires classes { classes.now
+            ≡ classes_of self.now.names.abc.now self.now.names.tables.now.numbers
+            (number_of_text self.now.names.tables.now.numbers name.string) }
         requires spaces { name.spaces ≡ forms.One space }
-        ensures { result ≡ meant self.now.names.abc.now (Some name) }
+        ensures { result ≡ meaning_of_name self.now.names.abc.now (Some name) }
     {
         let spaces = [space];
         self.meaning_among(slate, classes, name, spaces.as_slice())
@@ -151,11 +167,14 @@ impl Finder<'_> {
         name: PlainName,
         set: u32,
     ) -> Option<Named>
-        requires firsts { HasFirsts self.now.names.abc.now self.now.names.tables.now.numbers slate.now classes.now }
+        requires firsts { HasFirstClasses self.now.names.abc.now self.now.names.tables.now.numbers slate.now
+            classes.now }
         requires places { length slate.now ≡ length self.now.names.abc.now.instances }
-        requires classes { classes.now ≡ classes_of self.now.names.abc.now self.now.names.tables.now.numbers (number self.now.names.tables.now.numbers name.string) }
+        requires classes { classes.now
+            ≡ classes_of self.now.names.abc.now self.now.names.tables.now.numbers
+            (number_of_text self.now.names.tables.now.numbers name.string) }
         requires spaces { name.spaces ≡ forms.Set set }
-        ensures { result ≡ meant self.now.names.abc.now (Some name) }
+        ensures { result ≡ meaning_of_name self.now.names.abc.now (Some name) }
     {
         self.meaning_among(slate, classes, name, set_at(self.names.abc, set))
     }
@@ -168,9 +187,12 @@ impl Finder<'_> {
         name: u32,
         plain: PlainName,
     ) -> Option<Named>
-        requires firsts { HasFirsts self.now.names.abc.now self.now.names.tables.now.numbers slate.now classes.now }
+        requires firsts { HasFirstClasses self.now.names.abc.now self.now.names.tables.now.numbers slate.now
+            classes.now }
         requires places { length slate.now ≡ length self.now.names.abc.now.instances }
-        requires classes { classes.now ≡ classes_of self.now.names.abc.now self.now.names.tables.now.numbers (number self.now.names.tables.now.numbers plain.string) }
+        requires classes { classes.now
+            ≡ classes_of self.now.names.abc.now self.now.names.tables.now.numbers
+            (number_of_text self.now.names.tables.now.numbers plain.string) }
         requires plain { plain_name (name_of self.now.names.abc.now name) ≡ Some plain }
         ensures { result ≡ resolve self.now.names.abc.now name }
     {
@@ -190,9 +212,11 @@ impl Finder<'_> {
         name: u32,
         known: &mut Table<Option<Known>>,
     )
-        requires firsts { HasFirsts self.now.names.abc.now self.now.names.tables.now.numbers slate.now classes.now }
+        requires firsts { HasFirstClasses self.now.names.abc.now self.now.names.tables.now.numbers slate.now
+            classes.now }
         requires places { length slate.now ≡ length self.now.names.abc.now.instances }
-        requires classes { classes.now ≡ classes_of self.now.names.abc.now self.now.names.tables.now.numbers text }
+        requires classes { classes.now
+            ≡ classes_of self.now.names.abc.now self.now.names.tables.now.numbers text }
         requires known { AreKnown self.now.names.abc.now known.old }
         ensures { AreKnown self.now.names.abc.now known.new }
     {

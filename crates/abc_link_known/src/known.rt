@@ -1,5 +1,5 @@
 ghost use Rattle.std.specs.Prelude.{◌≡◌, None, Some, replicate, true, IfOk, OnOk};
-ghost use Rattle.abc_link_names.specs.Meaning.{meant, resolve};
+ghost use Rattle.abc_link_names.specs.Meaning.{meaning_of_name, resolve};
 ghost use Rattle.abc_link_names.specs.Meanings.{AreKnown};
 
 use crate::costly::{Way, may_cost_much, one_more, ways_of};
@@ -41,7 +41,8 @@ fn are_same(a: Spaces, b: Spaces) -> bool
 
 /// Whether two names have equal texts and the same namespaces.
 fn are_alike(names: &Names<'_>, a: PlainName, b: PlainName) -> bool
-    ensures { result ≡ true → meant names.now.abc.now (Some a) ≡ meant names.now.abc.now (Some b) }
+    ensures { result ≡ true
+        → meaning_of_name names.now.abc.now (Some a) ≡ meaning_of_name names.now.abc.now (Some b) }
 {
     names.number(a.string) == names.number(b.string) && are_same(a.spaces, b.spaces)
 }

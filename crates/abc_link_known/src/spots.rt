@@ -35,7 +35,9 @@ fn key_of_space(names: &Names<'_>, space: u32) -> NameKey
 
 /// The key of the namespace of a class's name; without a namespace, one that no namespace has.
 fn key_of_class(names: &Names<'_>, name: u32) -> NameKey
-    ensures { result ≡ class_key names.now.abc.now names.now.tables.now.numbers (definite_name (name_of names.now.abc.now name)) }
+    ensures { result
+        ≡ class_key names.now.abc.now names.now.tables.now.numbers
+        (definite_name (name_of names.now.abc.now name)) }
 {
     match definite_name_at(names.abc, name) {
         Some(definite) => key_of_space(names, definite.ns),
@@ -100,7 +102,8 @@ fn spots_of_keys(
 
 /// What is found under the key of a namespace.
 fn spot_of_key(names: &Names<'_>, found: &IndexMap<NameKey, u32>, space: u32) -> Option<u32>
-    ensures { result ≡ get keys_eq found.now (space_key names.now.abc.now names.now.tables.now.numbers space) }
+    ensures { result
+        ≡ get keys_eq found.now (space_key names.now.abc.now names.now.tables.now.numbers space) }
 {
     spot_of(found, key_of_space(names, space))
 }

@@ -7,7 +7,7 @@ use Rattle.std.proofs.lemmas.List.{append-nil, get_or_append_left, get_or-map, g
 use Rattle.std.proofs.lemmas.List.Elements.{All-append, All-cons, Contains-append_left, Contains-push}
 use Rattle.abc_base.specs.declared.names.HostClass.{HostClass}
 use Rattle.abc_base.specs.declared.names.HostClass.TheVariants as hosts
-use Rattle.abc_base_graphs.specs.Orders.{IsOrder, base, place}
+use Rattle.abc_base_graphs.specs.Orders.{IsOrder, base_in, place_in_order}
 use Rattle.abc_link_names.specs.Instances.{instance_at}
 use Rattle.abc_link_names.specs.Meaning.{resolve}
 use Rattle.abc_link_names.specs.declared.named.Named.{Named}
@@ -15,7 +15,7 @@ use Rattle.abc_link_names.specs.declared.named.Named.TheVariants as named
 use Rattle.abc_file_types.specs.declared.tables.Abc.{Abc}
 use Rattle.abc_link_layouts.specs.Forest.{class_bases, class_in}
 use Rattle.abc_link_layouts.specs.Numbering.{activation_in, parts_in}
-use Rattle.abc_link_names.specs.Numbering.{IsBehind, part_at}
+use Rattle.abc_link_names.specs.Numbering.{IsNumberedBehind, part_at}
 use Rattle.abc_link_names.specs.Parts.{HasLayout, base_part, has_activation, parent}
 use Rattle.abc_link_names.specs.Bases.{base_named}
 use Rattle.abc_link_names.specs.PartsByNumber.{body_at}
@@ -33,7 +33,7 @@ pub record HasHosts (all : List Part) : Type 0 where
 pub record AddsParts (v : Abc) (old new : List Part) : Type 0 where
   pub keeps : (p : Part) → Contains old p → Contains new p
   pub only : All (HasLayout v) old → All (HasLayout v) new
-  pub behind : HasHosts old → IsBehind v old → IsBehind v new
+  pub behind : HasHosts old → IsNumberedBehind v old → IsNumberedBehind v new
 
 -- the same, with the first i parts of a row
 pub record AddsEach (v : Abc) (old new : List Part) (row : ℕ → Part) (i : ℕ) : Type 0 where
@@ -55,7 +55,7 @@ pub record AddsBody (v : Abc) (old new : List Part) (b : ℕ) : Type 0 where
 all_none : {A : Type 0} (P : A → Type 0) → All P []
 all_none P = λ k d lt. absurd (omega arith)
 
-behind_more : (v : Abc) (old : List Part) (p : Part) → IsBehind v old → ((q : Part) → parent v p ≡ Some q → Contains old q) → IsBehind v (old ++ p ∷ [])
+behind_more : (v : Abc) (old : List Part) (p : Part) → IsNumberedBehind v old → ((q : Part) → parent v p ≡ Some q → Contains old q) → IsNumberedBehind v (old ++ p ∷ [])
 behind_more v old p b h = record { behind = λ x q lt e. go x q lt e (cases_lt x (length old)) }
   where
     top : Part
@@ -136,12 +136,12 @@ catches_added v old b lt = each_ranged v old (λ e. parts.Catch b e) (length (bo
 
 -- ---- the instances of classes, each behind its base
 
-placed_within : (places : List (Option ℕ)) (x p : ℕ) → place places x ≡ Some p → x < length places
+placed_within : (places : List (Option ℕ)) (x p : ℕ) → place_in_order places x ≡ Some p → x < length places
 placed_within places x p e = go (cases_lt x (length places))
   where
     go : (x < length places) ⊎ (length places ≤ x) → x < length places
     go (inl lt) = lt
-    go (inr le) = let none : Option ℕ = None in let f : place places x ≡ none = get_or_past places x none le in cc
+    go (inr le) = let none : Option ℕ = None in let f : place_in_order places x ≡ none = get_or_past places x none le in cc
 
 instance_next : (v : Abc) (nodes : List ℕ) (places : List (Option ℕ)) (first old new : List Part) (i : ℕ) → IsOrder (class_bases v) nodes places → i < length nodes
     → AddsEach v first old (λ q. parts.Instance (get_or nodes q 0)) i → new ≡ old ++ parts.Instance (get_or nodes i 0) ∷ [] → AddsEach v first new (λ q. parts.Instance (get_or nodes q 0)) (i + 1)
@@ -150,7 +150,7 @@ instance_next v nodes places first old new i o lt a e = each_next v first old ne
     k : ℕ
     k = get_or nodes i 0
 
-    at : place places (get_or nodes i 0) ≡ Some i
+    at : place_in_order places (get_or nodes i 0) ≡ Some i
     at = o.placed.back i lt
 
     within : get_or nodes i 0 < length v.instances
@@ -158,7 +158,7 @@ instance_next v nodes places first old new i o lt a e = each_next v first old ne
 
     of_class : (b : ℕ) → base_named v (get_or nodes i 0) ≡ Some (named.Class b) → Contains old (parts.Instance b)
     of_class b g =
-        let f : base (class_bases v) (get_or nodes i 0) ≡ Some b = base_at v (get_or nodes i 0) within ∙ ap class_in g in
+        let f : base_in (class_bases v) (get_or nodes i 0) ≡ Some b = base_at v (get_or nodes i 0) within ∙ ap class_in g in
         let h = o.placed.behind (get_or nodes i 0) b i at f in
         let t = o.placed.there b h.0 h.1 in
         subst (λ m. Contains old (parts.Instance m)) t.1 (a.each h.0 h.2)

@@ -7,7 +7,7 @@ use Rattle.std.proofs.lemmas.List.{get_or-append_right, get_or-map, get_or_appen
 use Rattle.std.proofs.lemmas.List.FromFn.{get_or-range_with_len, length-range_with_len}
 use Rattle.abc_base.specs.Names.{host_classes}
 use Rattle.abc_base.specs.declared.names.HostClass.TheVariants as hosts
-use Rattle.abc_base_graphs.specs.Orders.{IsOrder, place}
+use Rattle.abc_base_graphs.specs.Orders.{IsOrder, place_in_order}
 use Rattle.abc_file_types.specs.declared.tables.Abc.{Abc}
 use Rattle.abc_link_layouts.specs.Forest.{class_bases}
 use Rattle.abc_link_layouts.specs.Numbering.{activation_in, parts_in}
@@ -119,7 +119,7 @@ host_objects_apart = each_apart (λ h. parts.HostClassObject h) number 1 2 hosts
 pub instances_apart : (v : Abc) (nodes : List ℕ) (places : List (Option ℕ)) → IsOrder (class_bases v) nodes places → AreApart 2 3 (map (λ k. parts.Instance k) nodes)
 unfolding stage number
 instances_apart v nodes places o =
-    each_apart (λ k. parts.Instance k) (λ p. unwrap_or (place places (number p)) 0) 2 3 0 nodes (omega arith) (λ k. refl)
+    each_apart (λ k. parts.Instance k) (λ p. unwrap_or (place_in_order places (number p)) 0) 2 3 0 nodes (omega arith) (λ k. refl)
     (λ k lt. ap (λ (x : Option ℕ). unwrap_or x 0) (o.placed.back k lt))
 
 row_at : (n k : ℕ) → k < length (range_with_len 0 n) → get_or (range_with_len 0 n) k 0 ≡ k

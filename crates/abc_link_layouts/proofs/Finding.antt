@@ -6,11 +6,11 @@ use Rattle.indexmap.specs.IndexMap.{get}
 use Rattle.abc_base.specs.declared.names.HostClass.TheVariants as hosts
 use Rattle.abc_base_graphs.specs.Index.{first}
 use Rattle.abc_file_types.specs.declared.tables.Abc.{Abc}
-use Rattle.abc_link_layouts.specs.Laid.{AreLayouts, HasPlaces, PlaceMap, base_found, place_found, under_found}
+use Rattle.abc_link_layouts.specs.Laid.{AreLayouts, HasPartPlaces, PlaceMap, base_found, place_found, under_found}
 use Rattle.abc_link_layouts.specs.declared.layouts.Layouts.{Layouts}
 use Rattle.abc_link_names.specs.Numbering.{part_at}
 use Rattle.abc_link_names.specs.Parts.{parent}
-use Rattle.abc_link_names.specs.Places.{base_of, key_eq, part_key, place_of, place_under}
+use Rattle.abc_link_names.specs.Places.{base_of, key_eq, part_key, place_of_part, place_under}
 use Rattle.abc_link_names.specs.declared.key.PartKey.{PartKey}
 use Rattle.abc_link_names.specs.declared.part.Part.{Part}
 use Rattle.abc_link_names.specs.declared.part.Part.TheVariants as parts
@@ -18,10 +18,10 @@ use Rattle.abc_link_names.specs.declared.part.Part.TheVariants as parts
 pub at_keys : (all : List Part) (keys given : List PartKey) (places : PlaceMap) → keys ≡ map part_key all → given ≡ keys → ((k : PartKey) → get key_eq places k ≡ first (key_eq k) given) → (k : PartKey) → get key_eq places k ≡ first (key_eq k) (map part_key all)
 at_keys all keys given places e q f k = f k ∙ ap (first (key_eq k)) (q ∙ e)
 
-pub layout_is : (l : Layouts) (p : Part) → HasPlaces l → place_found l.places p ≡ place_of l.parts p
+pub layout_is : (l : Layouts) (p : Part) → HasPartPlaces l → place_found l.places p ≡ place_of_part l.parts p
 layout_is l p h = ap (λ o. unwrap_or o 0) (h.places (part_key p))
 
-pub place_is : (all : List Part) (places : PlaceMap) → ((k : PartKey) → get key_eq places k ≡ first (key_eq k) (map part_key all)) → (p : Part) → place_found places p ≡ place_of all p
+pub place_is : (all : List Part) (places : PlaceMap) → ((k : PartKey) → get key_eq places k ≡ first (key_eq k) (map part_key all)) → (p : Part) → place_found places p ≡ place_of_part all p
 place_is all places f p = ap (λ o. unwrap_or o 0) (f (part_key p))
 
 pub base_is : (v : Abc) (all : List Part) (places : PlaceMap) → ((k : PartKey) → get key_eq places k ≡ first (key_eq k) (map part_key all)) → (x : ℕ) → base_found v places (part_at all x) ≡ base_of v all x

@@ -5,10 +5,10 @@ use Rattle.std.specs.declared.option.Option.{Option}
 use Rattle.std.proofs.Math.Seq.{drop-cons}
 use Rattle.std.proofs.lemmas.Bool.{cases_eq, ne_eqb}
 use Rattle.abc_base_graphs.specs.Index.{first_from}
-use Rattle.abc_link_layouts.specs.Owning.{HasFirsts, HasFirstsFrom, Puts, Reaches}
+use Rattle.abc_link_layouts.specs.Owning.{HasFirstOwners, HasFirstsFrom, PutsOwner, ReachesKey}
 
-pub firsts_in : (t : List (Option ℕ)) (given keys : List ℕ) → given ≡ keys → HasFirsts t given → HasFirsts t keys
-firsts_in t given keys e f = subst (λ (ks : List ℕ). HasFirsts t ks) e f
+pub firsts_in : (t : List (Option ℕ)) (given keys : List ℕ) → given ≡ keys → HasFirstOwners t given → HasFirstOwners t keys
+firsts_in t given keys e f = subst (λ (ks : List ℕ). HasFirstOwners t ks) e f
 
 -- one more number without a place
 pub pushed_none : (t : List (Option ℕ)) (k : ℕ) → get_or (t ++ None ∷ []) k None ≡ get_or t k None
@@ -17,7 +17,7 @@ pushed_none [] (suc k) = refl
 pushed_none (x ∷ t) zero = refl
 pushed_none (x ∷ t) (suc k) = pushed_none t k
 
-pub put_at : (old mid new : List (Option ℕ)) (key place : ℕ) → Reaches old mid key → new ≡ set mid key (Some place) → Puts old new key place
+pub put_at : (old mid new : List (Option ℕ)) (key place : ℕ) → ReachesKey old mid key → new ≡ set mid key (Some place) → PutsOwner old new key place
 put_at old mid new key place r is = record { puts = λ k. go k (cases_eq k key) }
   where
     go : (k : ℕ) → (k ≡ key) ⊎ (k ≡ key → ⊥) → get_or new k None ≡ (if nat_eq k key then Some place else get_or old k None)
@@ -33,7 +33,7 @@ put_at old mid new key place r is = record { puts = λ k. go k (cases_eq k key) 
         ∙ sym (ap (λ (b : Bool). if b then Some place else get_or old k None) (ne_eqb k key ne))
 
 -- the number one place before
-pub firsts_next : (old new : List (Option ℕ)) (keys : List ℕ) (i : ℕ) → i < length keys → HasFirstsFrom old keys (i + 1) → Puts old new (get_or keys i 0) i → HasFirstsFrom new keys i
+pub firsts_next : (old new : List (Option ℕ)) (keys : List ℕ) (i : ℕ) → i < length keys → HasFirstsFrom old keys (i + 1) → PutsOwner old new (get_or keys i 0) i → HasFirstsFrom new keys i
 firsts_next old new keys i lt h p = record { finds = go }
   where
     next : suc i ≡ i + 1

@@ -5,7 +5,7 @@ use Rattle.abc_base.specs.Names.{host_classes}
 use Rattle.abc_base.specs.declared.names.HostClass.{HostClass}
 use Rattle.abc_base.specs.declared.names.HostClass.TheVariants as hosts
 use Rattle.abc_file_types.specs.declared.tables.Abc.{Abc}
-use Rattle.abc_link_names.specs.Numbering.{IsBehind, part_at}
+use Rattle.abc_link_names.specs.Numbering.{IsNumberedBehind, part_at}
 use Rattle.abc_link_names.specs.Parts.{HasLayout, host_parent, parent}
 use Rattle.abc_link_names.specs.declared.part.Part.{Part}
 use Rattle.abc_link_names.specs.declared.part.Part.TheVariants as parts
@@ -55,5 +55,5 @@ behind v (suc (suc (suc (suc (suc (suc (suc (suc (suc (suc (suc (suc zero)))))))
 behind v (suc (suc (suc (suc (suc (suc (suc (suc (suc (suc (suc (suc (suc zero))))))))))))) q lt e = let same : parts.Host hosts.Object ≡ q = cc in subst (Contains (take 13 host_parts)) same (0, lit< tt, refl)
 behind v (suc (suc (suc (suc (suc (suc (suc (suc (suc (suc (suc (suc (suc (suc x)))))))))))))) q lt e = absurd (omega arith)
 
-pub hosts_behind : (v : Abc) → IsBehind v host_parts
+pub hosts_behind : (v : Abc) → IsNumberedBehind v host_parts
 hosts_behind v = record { behind = behind v }

@@ -4,8 +4,8 @@ use Rattle.std.specs.declared.option.Option.{Option}
 use Rattle.std.specs.Option.{option_to_list}
 use Rattle.std.proofs.lemmas.Bool.{cases_lt}
 use Rattle.std.proofs.lemmas.List.{get_or-map, get_or_past, length-map}
-use Rattle.abc_base_graphs.specs.Graph.{Leads, Edge, Then, Returns, targets}
-use Rattle.abc_base_graphs.specs.Orders.{IsForest, IsOrder, base}
+use Rattle.abc_base_graphs.specs.Graph.{Leads, Edge, Then, Returns, leads_to}
+use Rattle.abc_base_graphs.specs.Orders.{IsForest, IsOrder, base_in}
 use Rattle.abc_link_names.specs.Instances.{instance_at, no_instance}
 use Rattle.abc_link_names.specs.Meaning.{resolve}
 use Rattle.abc_link_names.specs.declared.named.Named.{Named}
@@ -35,8 +35,8 @@ same_graph : (v : Abc) → map option_to_list (class_bases v) ≡ base_graph v
 same_graph v = map_map (λ (i : Instance). class_in (resolve v i.super_name)) option_to_list (λ (i : Instance). classes_named (resolve v i.super_name)) (λ i. as_list (resolve v i.super_name)) v.instances
 
 no_edge : (g : List (List ℕ)) (x y : ℕ) → length g ≤ x → Leads g x y → ⊥
-no_edge g x y le (Edge {y = m} c) = let e : targets g x ≡ [] = get_or_past g x [] le in let h = subst (λ (l : List ℕ). Contains l m) e c in absurd (omega (arith, h.1))
-no_edge g x y le (Then {y = m} c rest) = let e : targets g x ≡ [] = get_or_past g x [] le in let h = subst (λ (l : List ℕ). Contains l m) e c in absurd (omega (arith, h.1))
+no_edge g x y le (Edge {y = m} c) = let e : leads_to g x ≡ [] = get_or_past g x [] le in let h = subst (λ (l : List ℕ). Contains l m) e c in absurd (omega (arith, h.1))
+no_edge g x y le (Then {y = m} c rest) = let e : leads_to g x ≡ [] = get_or_past g x [] le in let h = subst (λ (l : List ℕ). Contains l m) e c in absurd (omega (arith, h.1))
 
 pub never_returns : (v : Abc) → AllHold v → (x : ℕ) → Returns (base_graph v) x → ⊥
 never_returns v all x r = go (cases_lt x (length v.instances))
@@ -54,17 +54,17 @@ known_class (Some named.Void) b e = cc
 known_class (Some (named.Host h)) b e = cc
 known_class (Some (named.Class k)) b e = let q : k ≡ b = cc in ap (λ m. Some (named.Class m)) q
 
-pub base_at : (v : Abc) (x : ℕ) → x < length v.instances → base (class_bases v) x ≡ class_in (resolve v (instance_at v x).super_name)
+pub base_at : (v : Abc) (x : ℕ) → x < length v.instances → base_in (class_bases v) x ≡ class_in (resolve v (instance_at v x).super_name)
 base_at v x lt = get_or-map (λ (i : Instance). class_in (resolve v i.super_name)) v.instances x no_instance None lt
 
-pub base_known : (v : Abc) (x b : ℕ) → base (class_bases v) x ≡ Some b → (x < length v.instances) × (resolve v (instance_at v x).super_name ≡ Some (named.Class b))
+pub base_known : (v : Abc) (x b : ℕ) → base_in (class_bases v) x ≡ Some b → (x < length v.instances) × (resolve v (instance_at v x).super_name ≡ Some (named.Class b))
 base_known v x b e = go (cases_lt x (length v.instances))
   where
     go : (x < length v.instances) ⊎ (length v.instances ≤ x) → (x < length v.instances) × (resolve v (instance_at v x).super_name ≡ Some (named.Class b))
     go (inl lt) = (lt, known_class (resolve v (instance_at v x).super_name) b (sym (base_at v x lt) ∙ e))
     go (inr le) =
         let none : Option ℕ = None in
-        let f : base (class_bases v) x ≡ none = get_or_past (class_bases v) x none (omega (arith, length-map v.instances (λ (i : Instance). class_in (resolve v i.super_name)))) in cc
+        let f : base_in (class_bases v) x ≡ none = get_or_past (class_bases v) x none (omega (arith, length-map v.instances (λ (i : Instance). class_in (resolve v i.super_name)))) in cc
 
 pub is_forest : (v : Abc) (bases : List (Option ℕ)) → AllHold v → bases ≡ class_bases v → IsForest bases
 is_forest v bases all e = subst IsForest (sym e) (record {

@@ -4,5 +4,5 @@ use Rattle.abc_link_names.specs.Linked.{LinkedFile}
 use Rattle.abc_file_types.specs.declared.tables.Abc.{Abc}
 
 -- the linked file: a file, and the parts of its layouts
-abbrev pub linked : Abc → Layouts → LinkedFile
-linked v l = record { file = v; parts = l.parts }
+abbrev pub linked_file : Abc → Layouts → LinkedFile
+linked_file v l = record { file = v; parts = l.parts }

@@ -29,12 +29,12 @@ abbrev pub base_found : Abc → PlaceMap → Part → Option ℕ
 base_found v places p = under_found places (parent v p)
 
 -- each part is found at its first place
-pub record HasPlaces (l : Layouts) : Type 0 where
+pub record HasPartPlaces (l : Layouts) : Type 0 where
   pub places : (k : PartKey) → get key_eq l.places k ≡ first (key_eq k) (map part_key l.parts)
 
 -- the parts have their numbers, are found by them, and so are the layouts that they stand under
 pub record AreLayouts (v : Abc) (l : Layouts) : Type 0 where
   pub is : l.parts ≡ numbering v
   pub numbering : IsNumbering v l.parts
-  pub found : HasPlaces l
+  pub found : HasPartPlaces l
   pub bases : l.bases ≡ map (base_found v l.places) l.parts

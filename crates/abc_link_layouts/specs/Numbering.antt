@@ -31,5 +31,5 @@ numbering v =
     ++ flat_map (parts_in v) (range_with_len 0 (length v.bodies))
 
 -- the layouts of a linked file have these numbers
-abbrev pub IsNumbered : LinkedFile → Type 0
-IsNumbered l = l.parts ≡ numbering l.file
+abbrev pub HasLayoutNumbers : LinkedFile → Type 0
+HasLayoutNumbers l = l.parts ≡ numbering l.file

@@ -13,16 +13,16 @@ use Rattle.abc_link_layouts.specs.declared.owners.Owners.{Owners}
 pub record HasFirstsFrom (table : List (Option ℕ)) (keys : List ℕ) (i : ℕ) : Type 0 where
   pub finds : (k : ℕ) → get_or table k None ≡ first_from (nat_eq k) i (drop i keys)
 
-pub record HasFirsts (table : List (Option ℕ)) (keys : List ℕ) : Type 0 where
+pub record HasFirstOwners (table : List (Option ℕ)) (keys : List ℕ) : Type 0 where
   pub finds : (k : ℕ) → get_or table k None ≡ first (nat_eq k) keys
 
 -- it got longer, without a place
-pub record Reaches (old new : List (Option ℕ)) (key : ℕ) : Type 0 where
+pub record ReachesKey (old new : List (Option ℕ)) (key : ℕ) : Type 0 where
   pub same : (k : ℕ) → get_or new k None ≡ get_or old k None
   pub within : key < length new
 
 -- it got this place, in place of another
-pub record Puts (old new : List (Option ℕ)) (key place : ℕ) : Type 0 where
+pub record PutsOwner (old new : List (Option ℕ)) (key place : ℕ) : Type 0 where
   pub puts : (k : ℕ) → get_or new k None ≡ (if nat_eq k key then Some place else get_or old k None)
 
 -- ---- the tables of a file
@@ -30,5 +30,5 @@ pub record Puts (old new : List (Option ℕ)) (key place : ℕ) : Type 0 where
 -- all namings of a file, the first place of each method among them, and the first body of each method
 pub record AreOwners (v : Abc) (o : Owners) : Type 0 where
   pub namings_are : o.namings ≡ namings v
-  pub places_are : HasFirsts o.places (map (λ n. n.method) o.namings)
-  pub bodies_are : HasFirsts o.bodies (methods_with_bodies v)
+  pub places_are : HasFirstOwners o.places (map (λ n. n.method) o.namings)
+  pub bodies_are : HasFirstOwners o.bodies (methods_with_bodies v)

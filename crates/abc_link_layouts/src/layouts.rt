@@ -1,10 +1,10 @@
 ghost use Rattle.std.specs.Prelude.{◌≡◌, ◌<◌, length, map, IfOk};
 ghost use Rattle.std.specs.Option.{option_map};
 ghost use Rattle.abc_base_graphs.specs.Ways.{IsFalling};
-ghost use Rattle.abc_link_layouts.specs.Laid.{AreLayouts, HasPlaces, base_found, place_found};
+ghost use Rattle.abc_link_layouts.specs.Laid.{AreLayouts, HasPartPlaces, base_found, place_found};
 ghost use Rattle.abc_link_names.specs.Numbering.{part_at};
 ghost use Rattle.abc_link_names.specs.Parts.{HasLayout, base_part as base_part_of, host_parent as host_parent_of, parent as parent_of};
-ghost use Rattle.abc_link_names.specs.Places.{base_of, place_of};
+ghost use Rattle.abc_link_names.specs.Places.{base_of, place_of_part};
 ghost use Rattle.abc_link_names.specs.declared.part.Part.{Part as AnyPart};
 ghost use Rattle.abc_link_names.specs.Bases.{base_named};
 ghost use Rattle.abc_link_names.specs.Rules.{AllHold};
@@ -149,8 +149,8 @@ impl Layouts {
     /// The layout of a part; of one without a layout, that of Object's instances.
     #[tactic(auto, using(crate::proofs::Finding::layout_is))]
     pub fn layout_of(&self, part: Part) -> LayoutId
-        requires { HasPlaces self.now }
-        ensures { result ≡ record { 0 = place_of self.now.parts part } }
+        requires { HasPartPlaces self.now }
+        ensures { result ≡ record { 0 = place_of_part self.now.parts part } }
     {
         LayoutId(place(&self.places, part))
     }
@@ -181,7 +181,8 @@ impl Layouts {
     /// A part that has a layout is found by it, and what a layout stands under has a lower number.
     pub fn layouts_law(&self, abc: &Abc)
         requires { AreLayouts abc.now self.now }
-        ensures found { (p : AnyPart) → HasLayout abc.now p → part_at self.now.parts (place_of self.now.parts p) ≡ p }
+        ensures found { (p : AnyPart) → HasLayout abc.now p
+            → part_at self.now.parts (place_of_part self.now.parts p) ≡ p }
         ensures falling { IsFalling (base_of abc.now self.now.parts) }
     {
         let _file = abc;

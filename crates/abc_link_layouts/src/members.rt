@@ -3,7 +3,7 @@ ghost use Rattle.std.specs.Option.{option_copied};
 ghost use Rattle.abc_base_graphs.specs.Texts.{HasTexts, number_in, numbers_in, texts_of};
 ghost use Rattle.abc_link_layouts.specs.Grouped.{HasGroups};
 ghost use Rattle.abc_link_names.specs.Traits.{own_traits as own_traits_of};
-ghost use Rattle.abc_link_layouts.specs.Files.{linked};
+ghost use Rattle.abc_link_layouts.specs.Files.{linked_file};
 
 use crate::layouts::Layouts;
 use crate::numbers::group;
@@ -34,8 +34,8 @@ fn push_group(
     requires texts { HasTexts texts.now (texts_of abc.now.strings) }
     requires numbers { numbers.now ≡ numbers_in texts.now abc.now.strings }
     requires known { x < length layouts.now.parts }
-    requires before { HasGroups (linked abc.now layouts.now) texts.now groups.old x }
-    ensures { OnOk result (HasGroups (linked abc.now layouts.now) texts.now groups.new (x + 1)) }
+    requires before { HasGroups (linked_file abc.now layouts.now) texts.now groups.old x }
+    ensures { OnOk result (HasGroups (linked_file abc.now layouts.now) texts.now groups.new (x + 1)) }
 {
     let table = traits_of(abc, layouts.part_of(LayoutId(x)));
     let map = group(alloc, abc, texts, numbers, table)?;
@@ -56,7 +56,8 @@ fn groups_of_layouts(
     requires texts { HasTexts texts.now (texts_of abc.now.strings) }
     requires numbers { numbers.now ≡ numbers_in texts.now abc.now.strings }
     requires count { count ≡ length layouts.now.parts }
-    ensures { IfOk result (λ g. HasGroups (linked abc.now layouts.now) texts.now g (length layouts.now.parts)) }
+    ensures { IfOk result
+        (λ g. HasGroups (linked_file abc.now layouts.now) texts.now g (length layouts.now.parts)) }
 {
     let mut groups = Table::new(alloc);
     for x in 0..count {
@@ -78,7 +79,8 @@ impl Members {
         requires texts { HasTexts texts.now (texts_of abc.now.strings) }
         requires numbers { numbers.now ≡ numbers_in texts.now abc.now.strings }
         requires count { count ≡ length layouts.now.parts }
-        ensures { IfOk result (λ m. HasGroups (linked abc.now layouts.now) texts.now m.groups (length layouts.now.parts)) }
+        ensures { IfOk result
+            (λ m. HasGroups (linked_file abc.now layouts.now) texts.now m.groups (length layouts.now.parts)) }
     {
         let groups = groups_of_layouts(alloc, abc, layouts, texts, numbers, count)?;
         Ok(Members { groups })
@@ -102,9 +104,11 @@ impl Members {
         layout: u32,
         number: Option<u32>,
     ) -> Option<&Table<u32>>
-        requires groups { HasGroups (linked abc.now layouts.now) texts.now self.now.groups (length layouts.now.parts) }
+        requires groups { HasGroups (linked_file abc.now layouts.now) texts.now self.now.groups
+            (length layouts.now.parts) }
         requires known { layout < length layouts.now.parts }
-        ensures { (t : List ℕ) → number_in texts.now t ≡ number → option_copied result ≡ own_traits_of (linked abc.now layouts.now) layout t }
+        ensures { (t : List ℕ) → number_in texts.now t ≡ number
+            → option_copied result ≡ own_traits_of (linked_file abc.now layouts.now) layout t }
     {
         let _file = abc;
         let _layouts = layouts;
@@ -125,9 +129,10 @@ impl Members {
         layout: u32,
         text: &[u8],
     ) -> Option<&Table<u32>>
-        requires groups { HasGroups (linked abc.now layouts.now) texts.now self.now.groups (length layouts.now.parts) }
+        requires groups { HasGroups (linked_file abc.now layouts.now) texts.now self.now.groups
+            (length layouts.now.parts) }
         requires known { layout < length layouts.now.parts }
-        ensures { option_copied result ≡ own_traits_of (linked abc.now layouts.now) layout text.now }
+        ensures { option_copied result ≡ own_traits_of (linked_file abc.now layouts.now) layout text.now }
     {
         self.own_numbered(abc, layouts, texts, layout, texts.number_of(text))
     }

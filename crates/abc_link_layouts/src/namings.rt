@@ -107,7 +107,9 @@ fn push_scripts(list: &mut Table<Naming>, abc: &Abc, count: u32) -> Result<(), N
 
 /// Whether the tables that name methods can be counted by 32 bits.
 fn are_few(abc: &Abc) -> bool
-    ensures { IsTrue result → (length abc.now.instances < 2 ^ 32) × (length abc.now.classes < 2 ^ 32) × (length abc.now.scripts < 2 ^ 32) }
+    ensures { IsTrue result
+        → (length abc.now.instances < 2 ^ 32) × (length abc.now.classes < 2 ^ 32)
+        × (length abc.now.scripts < 2 ^ 32) }
 {
     abc.instances.len() <= u32::MAX as usize
         && abc.classes.len() <= u32::MAX as usize

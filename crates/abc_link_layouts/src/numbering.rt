@@ -152,7 +152,9 @@ fn push_bodies(abc: &Abc, parts: &mut Table<Part>, count: u32) -> Result<(), NoM
 
 /// Whether the tables of a file can be counted by 32 bits.
 fn are_few(abc: &Abc) -> bool
-    ensures { IsTrue result → (length abc.now.instances < 2 ^ 32) × (length abc.now.scripts < 2 ^ 32) × (length abc.now.bodies < 2 ^ 32) }
+    ensures { IsTrue result
+        → (length abc.now.instances < 2 ^ 32) × (length abc.now.scripts < 2 ^ 32)
+        × (length abc.now.bodies < 2 ^ 32) }
 {
     abc.instances.len() <= u32::MAX as usize
         && abc.scripts.len() <= u32::MAX as usize

@@ -28,7 +28,8 @@ pub fn number_at(numbers: &Table<u32>, string: u32) -> u32
 pub fn string_number(abc: &Abc, texts: &Texts, numbers: &Table<u32>, string: u32) -> u32
     requires texts { HasTexts texts.now (texts_of abc.now.strings) }
     requires numbers { numbers.now ≡ numbers_in texts.now abc.now.strings }
-    ensures { first (bytes_eq (get_or (texts_of abc.now.strings) string [])) (texts_of abc.now.strings) ≡ Some result }
+    ensures { first (bytes_eq (get_or (texts_of abc.now.strings) string [])) (texts_of abc.now.strings)
+        ≡ Some result }
 {
     let _file = abc;
     let _texts = texts;
@@ -42,7 +43,8 @@ fn keys_of(
     numbers: &Table<u32>,
     table: &[TraitInfo],
 ) -> Result<Vec<u32>, NoMemory>
-    ensures { IfOk result (λ keys. keys.items ≡ map (λ t. get_or numbers.now (trait_name abc.now t).string 0) table.now) }
+    ensures { IfOk result
+        (λ keys. keys.items ≡ map (λ t. get_or numbers.now (trait_name abc.now t).string 0) table.now) }
 {
     let mut keys = Vec::new(alloc);
     for info in table {

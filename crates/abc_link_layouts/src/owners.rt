@@ -2,7 +2,7 @@ ghost use Rattle.std.specs.Prelude.{◌≡◌, ◌<◌, ◌^◌, length, map, If
 ghost use Rattle.abc_base_graphs.specs.Index.{first};
 ghost use Rattle.abc_link_names.specs.Owners.{body_of, owner_at as owner_at_of, owner_of};
 ghost use Rattle.abc_link_names.specs.Methods.{methods_with_bodies as all_with_bodies};
-ghost use Rattle.abc_link_layouts.specs.Owning.{AreOwners, HasFirsts, Puts, Reaches};
+ghost use Rattle.abc_link_layouts.specs.Owning.{AreOwners, HasFirstOwners, PutsOwner, ReachesKey};
 
 use crate::namings::namings;
 use abc_base::{NoMemory, Table};
@@ -45,7 +45,7 @@ fn methods_with_bodies(alloc: Global, abc: &Abc) -> Result<Vec<u32>, NoMemory>
 /// Makes a table long enough for a number.
 #[tactic(auto, using(crate::proofs::Firsts::pushed_none))]
 fn reach(table: &mut Table<Option<u32>>, number: u32) -> Result<(), NoMemory>
-    ensures { OnOk result (Reaches table.old table.new number) }
+    ensures { OnOk result (ReachesKey table.old table.new number) }
 {
     for _place in table.len()..number as usize + 1 {
         table.push(None)?;
@@ -56,7 +56,7 @@ fn reach(table: &mut Table<Option<u32>>, number: u32) -> Result<(), NoMemory>
 /// Puts a place at a number.
 #[tactic(auto, using(crate::proofs::Firsts::put_at))]
 fn put(table: &mut Table<Option<u32>>, number: u32, place: u32) -> Result<(), NoMemory>
-    ensures { OnOk result (Puts table.old table.new number place) }
+    ensures { OnOk result (PutsOwner table.old table.new number place) }
 {
     reach(table, number)?;
     table.set(number as usize, Some(place));
@@ -66,7 +66,7 @@ fn put(table: &mut Table<Option<u32>>, number: u32, place: u32) -> Result<(), No
 /// The first place of each number. Of 2^32 numbers or more there is never room for the places.
 #[tactic(auto, using(crate::proofs::Firsts::firsts_next))]
 fn first_places(alloc: Global, methods: &[u32]) -> Result<Table<Option<u32>>, NoMemory>
-    ensures { IfOk result (λ t. HasFirsts t methods.now) }
+    ensures { IfOk result (λ t. HasFirstOwners t methods.now) }
 {
     if methods.len() > u32::MAX as usize {
         return Err(NoMemory);
@@ -81,7 +81,7 @@ fn first_places(alloc: Global, methods: &[u32]) -> Result<Table<Option<u32>>, No
 /// The first place where each method is named.
 #[tactic(auto, using(crate::proofs::Firsts::firsts_in))]
 fn places_of(alloc: Global, list: &[Naming]) -> Result<Table<Option<u32>>, NoMemory>
-    ensures { IfOk result (λ t. HasFirsts t (map (λ n. n.method) list.now)) }
+    ensures { IfOk result (λ t. HasFirstOwners t (map (λ n. n.method) list.now)) }
 {
     let methods = methods_of(alloc, list)?;
     first_places(alloc, methods.as_slice())
@@ -90,7 +90,7 @@ fn places_of(alloc: Global, list: &[Naming]) -> Result<Table<Option<u32>>, NoMem
 /// The first body of each method.
 #[tactic(auto, using(crate::proofs::Firsts::firsts_in))]
 fn bodies_of(alloc: Global, abc: &Abc) -> Result<Table<Option<u32>>, NoMemory>
-    ensures { IfOk result (λ t. HasFirsts t (all_with_bodies abc.now)) }
+    ensures { IfOk result (λ t. HasFirstOwners t (all_with_bodies abc.now)) }
 {
     let methods = methods_with_bodies(alloc, abc)?;
     first_places(alloc, methods.as_slice())

@@ -1,14 +1,14 @@
 ghost use Rattle.std.specs.Prelude.{◌≡◌, ◌++◌, ◌∷◌, ◌+◌, ◌<◌, ◌^◌, [], false, true, length, unwrap_or, IfOk, OnOk};
 ghost use Rattle.std.specs.List.{flat_map};
 ghost use Rattle.abc_base_graphs.specs.Heirs.{AreHeirs};
-ghost use Rattle.abc_link_layouts.specs.Laid.{AreLayouts, HasPlaces};
+ghost use Rattle.abc_link_layouts.specs.Laid.{AreLayouts, HasPartPlaces};
 ghost use Rattle.abc_link_names.specs.Meaning.{type_named};
 ghost use Rattle.abc_link_names.specs.Numbering.{part_at};
-ghost use Rattle.abc_link_names.specs.Slots.{numbers_in, own_numbers as own_numbers_of, own_slots as own_slots_of, slots_in};
+ghost use Rattle.abc_link_names.specs.Slots.{slot_numbers_in, own_numbers as own_numbers_of, own_slots as own_slots_of, slots_in};
 ghost use Rattle.abc_link_names.specs.Types.{type_in as type_of_named};
 ghost use Rattle.abc_link_names.specs.Starts.{default_of, start_of as starts_at};
 ghost use Rattle.abc_link_names.specs.ItemTypes.{type_or_any};
-ghost use Rattle.abc_link_layouts.specs.Files.{linked};
+ghost use Rattle.abc_link_layouts.specs.Files.{linked_file};
 ghost use Rattle.abc_link_layouts.specs.Tables.{HasSlots};
 
 use crate::layouts::Layouts;
@@ -47,8 +47,9 @@ fn push_slot(
     layouts: &Layouts,
     body: TraitBody,
 ) -> Result<(), NoMemory>
-    requires { HasPlaces layouts.now }
-    ensures { OnOk result (list.new ≡ list.old ++ slots_in (linked meanings.now.abc.now layouts.now) body) }
+    requires { HasPartPlaces layouts.now }
+    ensures { OnOk result
+        (list.new ≡ list.old ++ slots_in (linked_file meanings.now.abc.now layouts.now) body) }
 {
     match body {
         TraitBody::Slot {
@@ -86,8 +87,9 @@ fn slots_among(
     layouts: &Layouts,
     table: &[TraitInfo],
 ) -> Result<Table<SlotInfo>, NoMemory>
-    requires { HasPlaces layouts.now }
-    ensures { IfOk result (λ t. t ≡ flat_map (λ i. slots_in (linked meanings.now.abc.now layouts.now) i.body) table.now) }
+    requires { HasPartPlaces layouts.now }
+    ensures { IfOk result
+        (λ t. t ≡ flat_map (λ i. slots_in (linked_file meanings.now.abc.now layouts.now) i.body) table.now) }
 {
     let mut list = Table::new(alloc);
     for info in table {
@@ -98,7 +100,7 @@ fn slots_among(
 
 /// Adds the number of the slot of a trait, if it has one; 0 is none.
 fn push_number(list: &mut Table<u32>, body: TraitBody) -> Result<(), NoMemory>
-    ensures { OnOk result (list.new ≡ list.old ++ numbers_in body) }
+    ensures { OnOk result (list.new ≡ list.old ++ slot_numbers_in body) }
 {
     match body {
         TraitBody::Slot { id, .. } | TraitBody::Class { id, .. } => {
@@ -111,7 +113,7 @@ fn push_number(list: &mut Table<u32>, body: TraitBody) -> Result<(), NoMemory>
 
 /// The numbers of the slots of a table of traits.
 fn numbers_among(alloc: Global, table: &[TraitInfo]) -> Result<Table<u32>, NoMemory>
-    ensures { IfOk result (λ t. t ≡ flat_map (λ i. numbers_in i.body) table.now) }
+    ensures { IfOk result (λ t. t ≡ flat_map (λ i. slot_numbers_in i.body) table.now) }
 {
     let mut list = Table::new(alloc);
     for info in table {
@@ -122,8 +124,10 @@ fn numbers_among(alloc: Global, table: &[TraitInfo]) -> Result<Table<u32>, NoMem
 
 /// The slot of a catch object, of the type of its exception.
 fn catch_slot(meanings: &Meanings<'_>, layouts: &Layouts, name: u32) -> SlotInfo
-    requires { HasPlaces layouts.now }
-    ensures ty { result.ty ≡ type_of_named (linked meanings.now.abc.now layouts.now) (type_or_any (type_named meanings.now.abc.now name)) }
+    requires { HasPartPlaces layouts.now }
+    ensures ty { result.ty
+        ≡ type_of_named (linked_file meanings.now.abc.now layouts.now)
+        (type_or_any (type_named meanings.now.abc.now name)) }
     ensures constant { result.constant ≡ false }
     ensures start { result.start ≡ default_of (type_or_any (type_named meanings.now.abc.now name)) }
 {
@@ -162,8 +166,8 @@ fn own_slots(
     layouts: &Layouts,
     part: Part,
 ) -> Result<Table<SlotInfo>, NoMemory>
-    requires { HasPlaces layouts.now }
-    ensures { IfOk result (λ t. t ≡ own_slots_of (linked meanings.now.abc.now layouts.now) part) }
+    requires { HasPartPlaces layouts.now }
+    ensures { IfOk result (λ t. t ≡ own_slots_of (linked_file meanings.now.abc.now layouts.now) part) }
 {
     match part {
         Part::Host(HostClass::Class) => one(alloc, prototype_slot()),
@@ -182,7 +186,7 @@ fn own_numbers(
     layouts: &Layouts,
     part: Part,
 ) -> Result<Table<u32>, NoMemory>
-    ensures { IfOk result (λ t. t ≡ own_numbers_of (linked meanings.now.abc.now layouts.now) part) }
+    ensures { IfOk result (λ t. t ≡ own_numbers_of (linked_file meanings.now.abc.now layouts.now) part) }
 {
     let _layouts = layouts;
     match part {
@@ -202,8 +206,8 @@ fn push_layout(
 ) -> Result<(), NoMemory>
     requires layouts { AreLayouts meanings.now.abc.now layouts.now }
     requires known { x < length layouts.now.parts }
-    requires before { HasSlots (linked meanings.now.abc.now layouts.now) heirs.old x }
-    ensures { OnOk result (HasSlots (linked meanings.now.abc.now layouts.now) heirs.new (x + 1)) }
+    requires before { HasSlots (linked_file meanings.now.abc.now layouts.now) heirs.old x }
+    ensures { OnOk result (HasSlots (linked_file meanings.now.abc.now layouts.now) heirs.new (x + 1)) }
 {
     let part = layouts.part_of(LayoutId(x));
     let own = own_slots(alloc, meanings, layouts, part)?;
@@ -223,7 +227,8 @@ pub fn slots_of(
 ) -> Result<Heirs<SlotInfo>, NoMemory>
     requires layouts { AreLayouts meanings.now.abc.now layouts.now }
     requires count { count ≡ length layouts.now.parts }
-    ensures { IfOk result (λ h. HasSlots (linked meanings.now.abc.now layouts.now) h (length layouts.now.parts)) }
+    ensures { IfOk result
+        (λ h. HasSlots (linked_file meanings.now.abc.now layouts.now) h (length layouts.now.parts)) }
 {
     let mut heirs = Heirs::new(alloc);
     for x in 0..count {

@@ -1,7 +1,7 @@
 ghost use Rattle.std.specs.Prelude.{◌≡◌};
-ghost use Rattle.abc_link_layouts.specs.Laid.{HasPlaces};
+ghost use Rattle.abc_link_layouts.specs.Laid.{HasPartPlaces};
 ghost use Rattle.abc_link_names.specs.Types.{host_type as type_of_host, type_in as type_of_named};
-ghost use Rattle.abc_link_layouts.specs.Files.{linked};
+ghost use Rattle.abc_link_layouts.specs.Files.{linked_file};
 
 use crate::layouts::Layouts;
 use abc_base::HostClass;
@@ -11,8 +11,8 @@ use abc_link_names::{Named, Part, Ty, is_interface};
 /// The type of a class of the host.
 #[inline(always)]
 fn host_type(abc: &Abc, layouts: &Layouts, host: HostClass) -> Ty
-    requires { HasPlaces layouts.now }
-    ensures { result ≡ type_of_host (linked abc.now layouts.now) host }
+    requires { HasPartPlaces layouts.now }
+    ensures { result ≡ type_of_host (linked_file abc.now layouts.now) host }
 {
     let _file = abc;
     match host {
@@ -29,8 +29,8 @@ fn host_type(abc: &Abc, layouts: &Layouts, host: HostClass) -> Ty
 
 /// The type of a class of the file.
 fn class_type(abc: &Abc, layouts: &Layouts, class: u32) -> Ty
-    requires { HasPlaces layouts.now }
-    ensures { result ≡ type_of_named (linked abc.now layouts.now) (Named.Class class) }
+    requires { HasPartPlaces layouts.now }
+    ensures { result ≡ type_of_named (linked_file abc.now layouts.now) (Named.Class class) }
 {
     if is_interface(abc, class) {
         Ty::Interface(class)
@@ -42,8 +42,8 @@ fn class_type(abc: &Abc, layouts: &Layouts, class: u32) -> Ty
 /// The type of what a name stands for.
 #[inline(always)]
 pub fn type_in(abc: &Abc, layouts: &Layouts, named: Named) -> Ty
-    requires { HasPlaces layouts.now }
-    ensures { result ≡ type_of_named (linked abc.now layouts.now) named }
+    requires { HasPartPlaces layouts.now }
+    ensures { result ≡ type_of_named (linked_file abc.now layouts.now) named }
 {
     match named {
         Named::Any => Ty::Any,

@@ -5,7 +5,7 @@ use Rattle.std.proofs.lemmas.Bool.{false_from_ne_true}
 use Rattle.std.proofs.lemmas.List.{get_or-map}
 use Rattle.std.specs.Prelude.{Bool, true, false, not, ◌&&◌, Contains, nat_eq, Some, None}
 use Rattle.std.specs.declared.option.Option.{Option}
-use Rattle.abc_base_graphs.specs.Graph.{Edge, Leads, Then, targets}
+use Rattle.abc_base_graphs.specs.Graph.{Edge, Leads, Then, leads_to}
 use Rattle.abc_base_graphs.proofs.Searched.{contains_none, contains_one}
 use Rattle.abc_file_types.specs.declared.classes.Instance.{Instance}
 use Rattle.abc_link_names.specs.Bases.{base_graph, base_named, breaks_unknown_base, classes_named, is_some_class}
@@ -53,7 +53,7 @@ module _ (l : LinkedFile) (linked : IsLinkedFile l) where
 
   -- ---- as a graph
 
-  base_targets : (k : ℕ) → k < length l.file.instances → targets (base_graph l.file) k ≡ classes_named (base_named l.file k)
+  base_targets : (k : ℕ) → k < length l.file.instances → leads_to (base_graph l.file) k ≡ classes_named (base_named l.file k)
   base_targets k b = get_or-map (λ (i : Instance). classes_named (resolve l.file i.super_name)) l.file.instances k no_instance [] b
 
   only_base : (o : Option Named) (b : ℕ) → Contains (classes_named o) b → o ≡ Some (named.Class b)
@@ -64,11 +64,11 @@ module _ (l : LinkedFile) (linked : IsLinkedFile l) where
   only_base (Some named.Void) b c = absurd (contains_none b c)
 
   -- what is led to by one edge is the base
-  pub edge_is : (k b : ℕ) → k < length l.file.instances → Contains (targets (base_graph l.file) k) b → base_named l.file k ≡ Some (named.Class b)
+  pub edge_is : (k b : ℕ) → k < length l.file.instances → Contains (leads_to (base_graph l.file) k) b → base_named l.file k ≡ Some (named.Class b)
   edge_is k b low c = only_base (base_named l.file k) b (subst (λ (ts : List ℕ). Contains ts b) (base_targets k low) c)
 
   -- and the base is led to
-  pub base_edge : (k b : ℕ) → k < length l.file.instances → base_named l.file k ≡ Some (named.Class b) → Contains (targets (base_graph l.file) k) b
+  pub base_edge : (k b : ℕ) → k < length l.file.instances → base_named l.file k ≡ Some (named.Class b) → Contains (leads_to (base_graph l.file) k) b
   base_edge k b low e = subst (λ (ts : List ℕ). Contains ts b) (sym (base_targets k low ∙ ap classes_named e)) (0, omega arith, refl)
 
   pub above_base : (k b : ℕ) → k < length l.file.instances → Leads (base_graph l.file) k b → (j : ℕ) × (base_named l.file k ≡ Some (named.Class j)) × ((b ≡ j) ⊎ Leads (base_graph l.file) j b)

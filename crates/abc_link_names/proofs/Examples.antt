@@ -4,7 +4,7 @@ use Rattle.std.specs.Prelude.{if◌then◌else◌, nat_eq, nat_lt, slice_index_o
 use Rattle.std.specs.List.{list_all}
 use Rattle.std.proofs.lemmas.Bool.{and_parts, cases_lt, eq-eqb, le-ltb, lt-ltb, ltb-true}
 use Rattle.std.proofs.lemmas.List.{get_or_past}
-use Rattle.abc_base_graphs.specs.Graph.{targets, Edge, Leads, Returns, Then}
+use Rattle.abc_base_graphs.specs.Graph.{leads_to, Edge, Leads, Returns, Then}
 use Rattle.abc_file_types.specs.declared.tables.Abc.{Abc}
 use Rattle.abc_link_names.specs.declared.items.Item.{Item}
 use Rattle.abc_link_names.specs.declared.items.ItemKind.{ItemKind}
@@ -12,7 +12,7 @@ use Rattle.abc_link_names.specs.declared.items.ItemKind.TheVariants as kinds
 use Rattle.abc_link_names.specs.declared.items.LinkRule.{LinkRule}
 use Rattle.abc_link_names.specs.declared.items.LinkRule.TheVariants as rules
 use Rattle.abc_link_names.specs.Bases.{base_graph, base_named, breaks_unknown_base, breaks_unknown_interface, interface_graph, is_final_base, is_interface_named}
-use Rattle.abc_link_names.specs.Examples.{RuleExamples}
+use Rattle.abc_link_names.specs.Examples.{LinkRuleExamples}
 use Rattle.abc_link_names.specs.Firsts.{item}
 use Rattle.abc_link_names.specs.Items.{IsItem, StandsBefore, count_of, kind_number, rule_number}
 use Rattle.abc_link_names.specs.Methods.{breaks_no_body, breaks_owned_twice}
@@ -42,12 +42,12 @@ at_place p (x ∷ xs) (suc k) d e low = at_place p xs k d (and_parts (p x) (list
 -- ---- a graph whose edges lead to nodes before: no node returns
 
 abbrev falls : List (List ℕ) → Bool
-falls graph = all_below (length graph) (λ x. list_all (λ y. nat_lt y x) (targets graph x))
+falls graph = all_below (length graph) (λ x. list_all (λ y. nat_lt y x) (leads_to graph x))
 
-edge_falls : (graph : List (List ℕ)) (x y : ℕ) → falls graph ≡ true → Contains (targets graph x) y → y < x
+edge_falls : (graph : List (List ℕ)) (x y : ℕ) → falls graph ≡ true → Contains (leads_to graph x) y → y < x
 edge_falls graph x y e c = elim (cases_lt x (length graph)) [
-  | inl low ↦ ltb-true y x (subst (λ (z : ℕ). nat_lt z x ≡ true) c.2 (at_place (λ z. nat_lt z x) (targets graph x) c.0 y (at_below (length graph) (λ z. list_all (λ y. nat_lt y z) (targets graph z)) x e low) c.1))
-  | inr past ↦ let none : targets graph x ≡ [] = get_or_past graph x [] past in let h : Contains [] y = subst (λ (l : List ℕ). Contains l y) none c in absurd (omega (arith, h.1))
+  | inl low ↦ ltb-true y x (subst (λ (z : ℕ). nat_lt z x ≡ true) c.2 (at_place (λ z. nat_lt z x) (leads_to graph x) c.0 y (at_below (length graph) (λ z. list_all (λ y. nat_lt y z) (leads_to graph z)) x e low) c.1))
+  | inr past ↦ let none : leads_to graph x ≡ [] = get_or_past graph x [] past in let h : Contains [] y = subst (λ (l : List ℕ). Contains l y) none c in absurd (omega (arith, h.1))
 ]
 
 leads_down : (graph : List (List ℕ)) (x y : ℕ) → falls graph ≡ true → Leads graph x y → y < x
@@ -193,7 +193,7 @@ told v rule i item broken first before = record {
   before = all_quiet v (rule_number rule) before;
 }
 
-pub rule_examples : RuleExamples
+pub rule_examples : LinkRuleExamples
 rule_examples = record {
   no_script = told _ _ _ refl refl refl refl;
   name_kind = told _ _ _ refl refl refl refl;

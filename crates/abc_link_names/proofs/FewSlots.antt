@@ -33,7 +33,7 @@ use Rattle.abc_file_types.specs.declared.traits.TraitInfo.{TraitInfo}
 use Rattle.abc_file_types.proofs.Whole.{canonical_file}
 use Rattle.abc_link_names.specs.Instances.{instance_at, no_instance}
 use Rattle.abc_link_names.specs.PartsByNumber.{body_at, class_at, no_body, no_class, no_script, script_at}
-use Rattle.abc_link_names.specs.Linked.{IsLinkedFile, LinkedFile, base}
+use Rattle.abc_link_names.specs.Linked.{IsLinkedFile, LinkedFile, base_layout}
 use Rattle.abc_link_names.specs.Numbering.{part_at}
 use Rattle.abc_link_names.specs.Parts.{HasLayout}
 use Rattle.abc_link_names.specs.Slots.{HasFewSlots, own_slots, slots_in, slots_of}
@@ -190,20 +190,20 @@ sum_rises u (suc i) (suc j) (x ∷ xs) le =
     omega (arith, a, b, h)
 
 -- those of a layout are at most those of the parts up to it
-slots_up_to : (l : LinkedFile) → IsFalling (base l) → (n x : ℕ) → x < n → x < length l.parts → length (slots_of l x) ≤ sum_by (table_of l.file) (take (x + 1) l.parts)
+slots_up_to : (l : LinkedFile) → IsFalling (base_layout l) → (n x : ℕ) → x < n → x < length l.parts → length (slots_of l x) ≤ sum_by (table_of l.file) (take (x + 1) l.parts)
 slots_up_to l falls zero x less low = absurd (omega (arith, less))
 slots_up_to l falls (suc n) x less low =
     let own = λ (y : ℕ). own_slots l (part_at l.parts y) in
-    let above : List SlotInfo = heritage (base l) own (base l x) in
-    let is : length (slots_of l x) ≡ length above + length (own x) = ap length (heritage_some (base l) own falls x) ∙ length-append above (own x) in
+    let above : List SlotInfo = heritage (base_layout l) own (base_layout l x) in
+    let is : length (slots_of l x) ≡ length above + length (own x) = ap length (heritage_some (base_layout l) own falls x) ∙ length-append above (own x) in
     let row : sum_by (table_of l.file) (take (x + 1) l.parts) ≡ sum_by (table_of l.file) (take x l.parts) + table_of l.file (part_at l.parts x) =
     ap (sum_by (table_of l.file)) (take_more l.parts x (parts.Host hosts.Object) low) ∙ sum_by_push (table_of l.file) (take x l.parts) (part_at l.parts x) in
     let here = own_few l (part_at l.parts x) in
-    let rest = go (slots_up_to l falls n) (base l x) refl in
+    let rest = go (slots_up_to l falls n) (base_layout l x) refl in
     omega (arith, is, row, here, rest)
   where
-    go : ((b : ℕ) → b < n → b < length l.parts → length (slots_of l b) ≤ sum_by (table_of l.file) (take (b + 1) l.parts)) → (b : Option ℕ) → base l x ≡ b → length (heritage (base l) (λ (y : ℕ). own_slots l (part_at l.parts y)) b) ≤ sum_by (table_of l.file) (take x l.parts)
-    go below None e = let none = ap length (heritage_none (base l) (λ (y : ℕ). own_slots l (part_at l.parts y))) in omega (arith, none)
+    go : ((b : ℕ) → b < n → b < length l.parts → length (slots_of l b) ≤ sum_by (table_of l.file) (take (b + 1) l.parts)) → (b : Option ℕ) → base_layout l x ≡ b → length (heritage (base_layout l) (λ (y : ℕ). own_slots l (part_at l.parts y)) b) ≤ sum_by (table_of l.file) (take x l.parts)
+    go below None e = let none = ap length (heritage_none (base_layout l) (λ (y : ℕ). own_slots l (part_at l.parts y))) in omega (arith, none)
     go below (Some b) e =
         let lt = falls.falls x b e in
         let h = below b (omega (arith, lt, less)) (omega (arith, lt, low)) in
@@ -499,7 +499,7 @@ parts_sum v =
 
 pub few_slots : (l : LinkedFile) → IsLinkedFile l → HasFewSlots l
 few_slots l linked x low =
-    let falls : IsFalling (base l) = falling l.file l.parts linked.numbering in
+    let falls : IsFalling (base_layout l) = falling l.file l.parts linked.numbering in
     let a = slots_up_to l falls (x + 1) x (omega arith) low in
     let b = sum_by-take-le (table_of l.file) l.parts (x + 1) in
     let c = no_more (table_of l.file) l.parts (all_parts l.file) (distinct l.parts linked.numbering.apart) known in

@@ -11,7 +11,7 @@ use Rattle.abc_file_types.specs.declared.tables.Abc.{Abc}
 use Rattle.abc_link_names.proofs.ItemsPairs.{first_found, first_hit}
 use Rattle.abc_link_names.specs.Numbering.{IsNumbering, part_at}
 use Rattle.abc_link_names.specs.Parts.{HasLayout, parent}
-use Rattle.abc_link_names.specs.Places.{base_of, host_number, key_eq, key_with, part_key, place_of, place_under}
+use Rattle.abc_link_names.specs.Places.{base_of, host_number, key_eq, key_with, part_key, place_of_part, place_under}
 use Rattle.abc_link_names.specs.declared.key.PartKey.{PartKey}
 use Rattle.abc_link_names.specs.declared.part.Part.{Part}
 use Rattle.abc_link_names.specs.declared.part.Part.TheVariants as parts
@@ -87,14 +87,14 @@ abbrev no_key : PartKey
 no_key = key_with 0 0 0
 
 -- a part that is there is found, no later than any of its places
-pub place_low : (all : List Part) (p : Part) (k : ℕ) → k < length all → part_at all k ≡ p → (place_of all p ≤ k) × (part_at all (place_of all p) ≡ p)
+pub place_low : (all : List Part) (p : Part) (k : ℕ) → k < length all → part_at all k ≡ p → (place_of_part all p ≤ k) × (part_at all (place_of_part all p) ≡ p)
 place_low all p k lt e =
     let keys = map part_key all in
     let within : k < length (map part_key all) = omega (arith, length-map all part_key) in
     let at : get_or (map part_key all) k no_key ≡ part_key p = get_or-map part_key all k (parts.Host hosts.Object) no_key lt ∙ ap part_key e in
     let pass : key_eq (part_key p) (get_or (map part_key all) k no_key) ≡ true = ap (key_eq (part_key p)) at ∙ key_self (part_key p) in
     let f = first_found (key_eq (part_key p)) (map part_key all) no_key k within pass in
-    let is : place_of all p ≡ f.0 = ap (λ o. unwrap_or o 0) f.1 in
+    let is : place_of_part all p ≡ f.0 = ap (λ o. unwrap_or o 0) f.1 in
     let h = first_hit (key_eq (part_key p)) (map part_key all) no_key f.0 f.1 in
     let low : f.0 < length all = omega (arith, h.0, length-map all part_key) in
     let there : get_or (map part_key all) f.0 no_key ≡ part_key (part_at all f.0) = get_or-map part_key all f.0 (parts.Host hosts.Object) no_key low in
@@ -102,7 +102,7 @@ place_low all p k lt e =
     (omega (arith, is, f.2), ap (part_at all) is ∙ sym same)
 
 -- every part that has a layout is found at its place
-pub found : (v : Abc) (all : List Part) → IsNumbering v all → (p : Part) → HasLayout v p → part_at all (place_of all p) ≡ p
+pub found : (v : Abc) (all : List Part) → IsNumbering v all → (p : Part) → HasLayout v p → part_at all (place_of_part all p) ≡ p
 found v all n p has = let c = n.every p has in (place_low all p c.0 c.1 (get_or_default all c.0 (parts.Host hosts.Object) p c.1 ∙ c.2)).1
 
 -- what a layout stands under has a lower number
@@ -120,5 +120,5 @@ falling v all n = record { falls = λ x y e. go x y (cases_lt x (length all)) (p
         let short : c.0 < x = omega (arith, c.1, length-take x all) in
         let at : part_at all c.0 ≡ q = sym (get_or-take x all c.0 (parts.Host hosts.Object) short) ∙ get_or_default (take x all) c.0 (parts.Host hosts.Object) q c.1 ∙ c.2 in
         let h = place_low all q c.0 (omega arith) at in
-        let is : place_of all q ≡ y = cc in
+        let is : place_of_part all q ≡ y = cc in
         omega (arith, is, h.0, short)

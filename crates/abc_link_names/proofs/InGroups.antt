@@ -15,8 +15,8 @@ use Rattle.abc_link_names.specs.declared.named.PlainName.{PlainName}
 use Rattle.abc_link_names.specs.declared.tables.NameTables.{NameTables}
 use Rattle.abc_link_names.specs.Pool.{text}
 use Rattle.abc_link_names.specs.Instances.{instance_at, no_instance}
-use Rattle.abc_link_names.specs.Meaning.{holds, has_name, class_name_of, is_class_named}
-use Rattle.abc_link_names.specs.Numbers.{AreNames, number, key_of, class_keys, classes_of}
+use Rattle.abc_link_names.specs.Meaning.{holds_space, is_definite_name, class_name_of, is_class_named}
+use Rattle.abc_link_names.specs.Numbers.{AreNames, number_of_text, key_of_name, class_keys, classes_of}
 
 -- the first that passes a test stands in each group that all that pass are in
 find_in_group : {A : Type 0} (test : A → Bool) (all : List A) (d : A) (k n : ℕ) (xs : List A) (keys : List ℕ)
@@ -64,19 +64,19 @@ first_holds true b e = refl
 first_holds false b e = e
 
 -- a class that a name names has the key of the name
-key_of_named : (v : Abc) (t : NameTables) (n : PlainName) (d : Option DefiniteName) → AreNames v t → has_name v n d ≡ true → nat_eq (number t.numbers n.string) (key_of t.numbers d) ≡ true
+key_of_named : (v : Abc) (t : NameTables) (n : PlainName) (d : Option DefiniteName) → AreNames v t → is_definite_name v n d ≡ true → nat_eq (number_of_text t.numbers n.string) (key_of_name t.numbers d) ≡ true
 key_of_named v t n None a is = absurd (false≢true is)
-key_of_named v t n (Some d) a is = a.same n.string d.string ∙ first_holds (bytes_eq (text v n.string) (text v d.string)) (holds v n.spaces d.ns) is
+key_of_named v t n (Some d) a is = a.same n.string d.string ∙ first_holds (bytes_eq (text v n.string) (text v d.string)) (holds_space v n.spaces d.ns) is
 
 pub first_class : (v : Abc) (t : NameTables) (n : PlainName) → AreNames v t
-    → find (λ i. is_class_named v n (instance_at v i)) (classes_of v t.numbers (number t.numbers n.string)) ≡ first (is_class_named v n) v.instances
+    → find (λ i. is_class_named v n (instance_at v i)) (classes_of v t.numbers (number_of_text t.numbers n.string)) ≡ first (is_class_named v n) v.instances
 first_class v t n a =
     sym
-    (first_in_group (is_class_named v n) v.instances no_instance (number t.numbers n.string) (class_keys v t.numbers)
+    (first_in_group (is_class_named v n) v.instances no_instance (number_of_text t.numbers n.string) (class_keys v t.numbers)
     (λ j lt is.
-    let e : get_or (class_keys v t.numbers) j 0 ≡ key_of t.numbers (class_name_of v (instance_at v j)) = get_or-map (λ (i : Instance). key_of t.numbers (class_name_of v i)) v.instances j no_instance 0 lt in
-    ap (nat_eq (number t.numbers n.string)) e ∙ key_of_named v t n (class_name_of v (instance_at v j)) a is)
-    (length-map v.instances (λ (i : Instance). key_of t.numbers (class_name_of v i))))
+    let e : get_or (class_keys v t.numbers) j 0 ≡ key_of_name t.numbers (class_name_of v (instance_at v j)) = get_or-map (λ (i : Instance). key_of_name t.numbers (class_name_of v i)) v.instances j no_instance 0 lt in
+    ap (nat_eq (number_of_text t.numbers n.string)) e ∙ key_of_named v t n (class_name_of v (instance_at v j)) a is)
+    (length-map v.instances (λ (i : Instance). key_of_name t.numbers (class_name_of v i))))
 
 some_group : (ps g : List ℕ) → some_places ps ≡ Some g → g ≡ ps
 some_group [] g e = cc

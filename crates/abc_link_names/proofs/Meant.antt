@@ -8,7 +8,7 @@ use Rattle.abc_file_types.specs.declared.tables.Abc.{Abc}
 use Rattle.abc_link_names.specs.declared.meanings.Known.{Known}
 use Rattle.abc_link_names.specs.declared.named.Named.{Named}
 use Rattle.abc_link_names.specs.Pool.{name, no_name, plain_name}
-use Rattle.abc_link_names.specs.Meaning.{meant, resolve}
+use Rattle.abc_link_names.specs.Meaning.{meaning_of_name, resolve}
 use Rattle.abc_link_names.specs.Meanings.{AreKnown, AreMeanings, MeansBelow}
 use Rattle.abc_base.proofs.Past.{past_end}
 
@@ -43,7 +43,7 @@ means_all v t n h e = record { means = λ m. go m (cases_lt m n) }
         let past : name v m ≡ no_name = name_past v m (omega arith) in
         let q = h.len in
         let e2 : get_or t m None ≡ None = get_or_past t m None (omega arith) in
-        e2 ∙ sym (ap (λ (x : Multiname). meant v (plain_name x)) past)
+        e2 ∙ sym (ap (λ (x : Multiname). meaning_of_name v (plain_name x)) past)
 
 pub known_means : (v : Abc) (t : List (Option Known)) (n : ℕ) (k : Known) → AreKnown v t → get_or t n None ≡ Some k → k.named ≡ resolve v n
 known_means v t n k h e = h.known n k e

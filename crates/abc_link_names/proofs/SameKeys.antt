@@ -8,7 +8,7 @@ use Rattle.abc_link_names.specs.declared.named.DefiniteName.{DefiniteName}
 use Rattle.abc_link_names.specs.declared.tables.NameTables.{NameTables}
 use Rattle.abc_link_names.specs.Pool.{space, text, is_private, shared_code}
 use Rattle.abc_link_names.specs.Keys.{keys_eq, name_key, same_name}
-use Rattle.abc_link_names.specs.Numbers.{AreNames, number}
+use Rattle.abc_link_names.specs.Numbers.{AreNames, number_of_text}
 
 not_equal : (m n : ℕ) → (m ≡ n → ⊥) → nat_eq m n ≡ false
 not_equal m n ne = go (nat_eq m n) refl
@@ -46,11 +46,11 @@ core ta tb ca cb na nb pa pb false false e f same = ap (λ b. nat_eq ta tb && (n
 pub same_keys : (v : Abc) (t : NameTables) (a b : DefiniteName) → AreNames v t → keys_eq (name_key v t.numbers a) (name_key v t.numbers b) ≡ same_name v a b
 same_keys v t a b h =
     core
-    (number t.numbers a.string) (number t.numbers b.string)
+    (number_of_text t.numbers a.string) (number_of_text t.numbers b.string)
     (shared_code (space v a.ns).kind) (shared_code (space v b.ns).kind)
-    (number t.numbers (space v a.ns).name) (number t.numbers (space v b.ns).name)
+    (number_of_text t.numbers (space v a.ns).name) (number_of_text t.numbers (space v b.ns).name)
     a.ns b.ns (is_private (space v a.ns).kind) (is_private (space v b.ns).kind)
     refl refl
     (λ e. ap (λ i. shared_code (space v i).kind) e)
-    ∙ ap (λ x. x && cond (is_private (space v a.ns).kind) (nat_eq a.ns b.ns) (nat_eq (shared_code (space v a.ns).kind) (shared_code (space v b.ns).kind) && nat_eq (number t.numbers (space v a.ns).name) (number t.numbers (space v b.ns).name))) (h.same a.string b.string)
+    ∙ ap (λ x. x && cond (is_private (space v a.ns).kind) (nat_eq a.ns b.ns) (nat_eq (shared_code (space v a.ns).kind) (shared_code (space v b.ns).kind) && nat_eq (number_of_text t.numbers (space v a.ns).name) (number_of_text t.numbers (space v b.ns).name))) (h.same a.string b.string)
     ∙ ap (λ x. bytes_eq (text v a.string) (text v b.string) && cond (is_private (space v a.ns).kind) (nat_eq a.ns b.ns) (nat_eq (shared_code (space v a.ns).kind) (shared_code (space v b.ns).kind) && x)) (h.same (space v a.ns).name (space v b.ns).name)

@@ -2,15 +2,15 @@
 use Rattle.std.proofs.Common.{◌≡◌, ℕ, zero, suc, ◌+◌, ◌-◌, ◌≤◌, ◌<◌, ◌≢◌, Some, None, refl, ap, ◌∙◌, arith, unwrap_or}
 use Rattle.std.specs.declared.option.Option.{Option}
 use Rattle.abc_base_graphs.specs.Ways.{IsFalling}
-use Rattle.abc_link_names.specs.Linked.{IsLinkedFile, LinkedFile, above, base}
+use Rattle.abc_link_names.specs.Linked.{IsLinkedFile, LinkedFile, above, base_layout}
 use Rattle.abc_link_names.specs.Tree.{IsBelow, up}
 use Rattle.abc_link_names.proofs.Finding.{falling}
 
 -- what stands above a layout has a lower number, but for the first
 pub above_le : (l : LinkedFile) → IsLinkedFile l → (x : ℕ) → above l x ≤ x - 1
-above_le l t x = go (base l x) refl
+above_le l t x = go (base_layout l x) refl
   where
-    go : (o : Option ℕ) → base l x ≡ o → unwrap_or o 0 ≤ x - 1
+    go : (o : Option ℕ) → base_layout l x ≡ o → unwrap_or o 0 ≤ x - 1
     go None e = omega arith
     go (Some y) e = let h = (falling l.file l.parts t.numbering).falls x y e in omega arith
 

@@ -11,7 +11,7 @@ use Rattle.abc_base.specs.declared.names.HostClass.{HostClass}
 use Rattle.abc_base_graphs.specs.Graph.{IsGraph}
 use Rattle.abc_base_graphs.specs.Index.{first}
 use Rattle.abc_link_names.specs.Instances.{no_instance}
-use Rattle.abc_link_names.specs.Meaning.{class_or_host, holds_public, host_among, host_named, is_class_named, meant, resolve}
+use Rattle.abc_link_names.specs.Meaning.{class_or_host, holds_public, host_among, host_named, is_class_named, meaning_of_name, resolve}
 use Rattle.abc_link_names.specs.Pool.{name, plain_name, text}
 use Rattle.abc_link_names.specs.declared.named.Named.{Named}
 use Rattle.abc_link_names.specs.declared.named.Named.TheVariants as named
@@ -46,7 +46,7 @@ resolve_within v n k e = go (plain_name (name v n)) e
     of_class p None f e = of_host p (holds_public v p.spaces) e
     of_class p (Some j) f e = let q : j ≡ k = cc in let h = first_hit (is_class_named v p) v.instances no_instance j f in subst (λ m. m < length v.instances) q h.0
 
-    go : (o : Option PlainName) → meant v o ≡ Some (named.Class k) → k < length v.instances
+    go : (o : Option PlainName) → meaning_of_name v o ≡ Some (named.Class k) → k < length v.instances
     go None e = cc
     go (Some p) e = of_class p (first (is_class_named v p) v.instances) refl e
 

@@ -25,9 +25,9 @@ IsFirstItem v rule None = (j : Item) → IsItem v j → Breaks v rule j → ⊥
 IsFirstItem v rule (Some x) = IsItem v x × Breaks v rule x × ((j : Item) → IsItem v j → StandsBefore j x → Breaks v rule j → ⊥)
 
 -- a refusal names the first broken rule and its first item; want of memory is free
-abbrev pub IsRefusal : Abc → LinkError → Type 0
-IsRefusal v errors.NoMemory = Unit {0}
-IsRefusal v (errors.Refused rule i) = IsFirstBroken v rule i
+abbrev pub IsLinkRefusal : Abc → LinkError → Type 0
+IsLinkRefusal v errors.NoMemory = Unit {0}
+IsLinkRefusal v (errors.Refused rule i) = IsFirstBroken v rule i
 
 -- the tables are few enough to be counted by 32 bits
 pub record IsFew (v : Abc) : Type 0 where

@@ -5,7 +5,7 @@ use Rattle.std.specs.List.{list_any}
 use Rattle.abc_link_names.specs.Instances.{instance_at}
 use Rattle.abc_link_names.specs.Keys.{same_name}
 use Rattle.abc_link_names.specs.Meaning.{type_named}
-use Rattle.abc_link_names.specs.Pool.{definite_name, is_plain, name, qname}
+use Rattle.abc_link_names.specs.Pool.{definite_name, is_qname_or_multiname, name, qname}
 use Rattle.abc_link_names.specs.declared.named.Named.{Named}
 use Rattle.abc_link_names.specs.declared.named.Named.TheVariants as named
 use Rattle.abc_file_types.specs.declared.code.Handler.{Handler}
@@ -51,7 +51,7 @@ is_definite v n = is_some (definite_name (name v n))
 
 -- a type, a base or an interface is a QName or a Multiname; index 0 is the type any, or no base
 abbrev pub is_type_name : Abc → ℕ → Bool
-is_type_name v n = nat_eq n 0 || is_plain (name v n)
+is_type_name v n = nat_eq n 0 || is_qname_or_multiname (name v n)
 
 abbrev pub has_bad_variable : Abc → Handler → Bool
 has_bad_variable v h = not (nat_eq h.var_name 0) && not (is_definite v h.var_name)

@@ -33,21 +33,21 @@ kind_number kinds.Script = 3
 kind_number kinds.Body = 4
 
 -- the names of rules and of kinds, as error lines show them
-abbrev pub rule_name : LinkRule → List ℕ
-rule_name rules.NoScript = codes "NoScript"
-rule_name rules.NameKind = codes "NameKind"
-rule_name rules.UnknownBase = codes "UnknownBase"
-rule_name rules.BaseCycle = codes "BaseCycle"
-rule_name rules.FinalBase = codes "FinalBase"
-rule_name rules.BaseIsInterface = codes "BaseIsInterface"
-rule_name rules.UnknownInterface = codes "UnknownInterface"
-rule_name rules.UnknownType = codes "UnknownType"
-rule_name rules.OwnedTwice = codes "OwnedTwice"
-rule_name rules.NoBody = codes "NoBody"
-rule_name rules.SameName = codes "SameName"
-rule_name rules.SameSlot = codes "SameSlot"
-rule_name rules.TraitNotRun = codes "TraitNotRun"
-rule_name rules.TooLarge = codes "TooLarge"
+abbrev pub link_rule_name : LinkRule → List ℕ
+link_rule_name rules.NoScript = codes "NoScript"
+link_rule_name rules.NameKind = codes "NameKind"
+link_rule_name rules.UnknownBase = codes "UnknownBase"
+link_rule_name rules.BaseCycle = codes "BaseCycle"
+link_rule_name rules.FinalBase = codes "FinalBase"
+link_rule_name rules.BaseIsInterface = codes "BaseIsInterface"
+link_rule_name rules.UnknownInterface = codes "UnknownInterface"
+link_rule_name rules.UnknownType = codes "UnknownType"
+link_rule_name rules.OwnedTwice = codes "OwnedTwice"
+link_rule_name rules.NoBody = codes "NoBody"
+link_rule_name rules.SameName = codes "SameName"
+link_rule_name rules.SameSlot = codes "SameSlot"
+link_rule_name rules.TraitNotRun = codes "TraitNotRun"
+link_rule_name rules.TooLarge = codes "TooLarge"
 
 -- the name of a kind of item, as error lines show it
 abbrev pub kind_name : ItemKind → List ℕ

@@ -7,17 +7,17 @@ use Rattle.abc_file_types.specs.declared.tables.Abc.{Abc}
 use Rattle.abc_link_names.specs.declared.keys.NameKey.{NameKey}
 use Rattle.abc_link_names.specs.declared.named.DefiniteName.{DefiniteName}
 use Rattle.abc_link_names.specs.Pool.{space, text, same_space, is_private, shared_code}
-use Rattle.abc_link_names.specs.Numbers.{number}
+use Rattle.abc_link_names.specs.Numbers.{number_of_text}
 
 -- the key of a text by its number, in a namespace
 abbrev pub key_in : List ℕ → ℕ → ℕ → Namespace → NameKey
 key_in numbers t a n =
     if is_private n.kind then record { text = t; code = 0x05; name = 0; place = a }
-    else record { text = t; code = shared_code n.kind; name = number numbers n.name; place = 0 }
+    else record { text = t; code = shared_code n.kind; name = number_of_text numbers n.name; place = 0 }
 
 -- the key of a name of a namespace and a text, by the numbers of the file's texts
 abbrev pub name_key : Abc → List ℕ → DefiniteName → NameKey
-name_key v numbers d = key_in numbers (number numbers d.string) d.ns (space v d.ns)
+name_key v numbers d = key_in numbers (number_of_text numbers d.string) d.ns (space v d.ns)
 
 -- equal texts, and equal namespaces
 abbrev pub same_name : Abc → DefiniteName → DefiniteName → Bool

@@ -29,9 +29,9 @@ IsAtMost l (Obj x) (Obj y) = IsBelow l x.0 y.0
 IsAtMost l a b = ⊥
 
 -- the layouts and classes that a kind or a type names exist
-abbrev pub IsKnown : LinkedFile → Kind → Type 0
-IsKnown l (Obj x) = IsLayout l x
-IsKnown l kind = Unit {0}
+abbrev pub IsKindKnown : LinkedFile → Kind → Type 0
+IsKindKnown l (Obj x) = IsLayout l x
+IsKindKnown l kind = Unit {0}
 
 abbrev pub IsKnownType : LinkedFile → Ty → Type 0
 IsKnownType l (types.Of x) = IsLayout l x

@@ -7,7 +7,7 @@ use Rattle.abc_file_types.specs.declared.tables.Abc.{Abc}
 use Rattle.abc_link_names.specs.Firsts.{IsFew}
 use Rattle.abc_link_names.specs.Rules.{AllHold}
 use Rattle.abc_link_names.specs.Numbering.{IsNumbering, part_at}
-use Rattle.abc_link_names.specs.Places.{base_of, place_of}
+use Rattle.abc_link_names.specs.Places.{base_of, place_of_part}
 use Rattle.abc_link_names.specs.declared.part.LayoutId.{LayoutId}
 use Rattle.abc_link_names.specs.declared.part.Part.{Part}
 
@@ -35,12 +35,12 @@ part_of l x = part_at l.parts x.0
 
 -- the layout of a part that has one
 abbrev pub layout_of : LinkedFile → Part → LayoutId
-layout_of l p = record { 0 = place_of l.parts p }
+layout_of l p = record { 0 = place_of_part l.parts p }
 
 -- the layout that a layout stands under
-abbrev pub base : LinkedFile → ℕ → Option ℕ
-base l x = base_of l.file l.parts x
+abbrev pub base_layout : LinkedFile → ℕ → Option ℕ
+base_layout l x = base_of l.file l.parts x
 
 -- the same, with that of Object above itself
 abbrev pub above : LinkedFile → ℕ → ℕ
-above l x = unwrap_or (base l x) 0
+above l x = unwrap_or (base_layout l x) 0

@@ -17,10 +17,10 @@ use Rattle.abc_link_names.specs.declared.named.Named.TheVariants as named
 use Rattle.abc_link_names.specs.Pool.{text, set, name, same_space, is_public, plain_name, definite_name}
 
 -- one of the namespaces of a name is equal to a namespace
-abbrev pub holds : Abc → Spaces → ℕ → Bool
-holds v forms.Every s = true
-holds v (forms.One a) s = same_space v s a
-holds v (forms.Set k) s = list_any (same_space v s) (set v k)
+abbrev pub holds_space : Abc → Spaces → ℕ → Bool
+holds_space v forms.Every s = true
+holds_space v (forms.One a) s = same_space v s a
+holds_space v (forms.Set k) s = list_any (same_space v s) (set v k)
 
 -- the public namespace is one of the namespaces of a name
 abbrev pub holds_public : Abc → Spaces → Bool
@@ -31,15 +31,15 @@ holds_public v (forms.Set k) = list_any (is_public v) (set v k)
 -- ---- classes of the file
 
 -- a definite name has this text, and one of these namespaces
-abbrev pub has_name : Abc → PlainName → Option DefiniteName → Bool
-has_name v n None = false
-has_name v n (Some d) = bytes_eq (text v n.string) (text v d.string) && holds v n.spaces d.ns
+abbrev pub is_definite_name : Abc → PlainName → Option DefiniteName → Bool
+is_definite_name v n None = false
+is_definite_name v n (Some d) = bytes_eq (text v n.string) (text v d.string) && holds_space v n.spaces d.ns
 
 abbrev pub class_name_of : Abc → Instance → Option DefiniteName
 class_name_of v i = definite_name (name v i.name)
 
 abbrev pub is_class_named : Abc → PlainName → Instance → Bool
-is_class_named v n i = has_name v n (class_name_of v i)
+is_class_named v n i = is_definite_name v n (class_name_of v i)
 
 -- ---- classes of the host
 
@@ -58,13 +58,13 @@ abbrev pub class_or_host : Abc → PlainName → Option ℕ → Option Named
 class_or_host v n (Some k) = Some (named.Class k)
 class_or_host v n None = if holds_public v n.spaces then host_named (text v n.string) else None
 
-abbrev pub meant : Abc → Option PlainName → Option Named
-meant v None = None
-meant v (Some n) = class_or_host v n (first (is_class_named v n) v.instances)
+abbrev pub meaning_of_name : Abc → Option PlainName → Option Named
+meaning_of_name v None = None
+meaning_of_name v (Some n) = class_or_host v n (first (is_class_named v n) v.instances)
 
 -- the first class of the file that has the name, else what the host has under its text
 abbrev pub resolve : Abc → ℕ → Option Named
-resolve v n = meant v (plain_name (name v n))
+resolve v n = meaning_of_name v (plain_name (name v n))
 
 -- the same for a type, where index 0 is the type any
 abbrev pub type_named : Abc → ℕ → Option Named

@@ -22,29 +22,29 @@ methods_in (traits.Function id m) = m ∷ []
 abbrev pub methods_among : List TraitInfo → List ℕ
 methods_among ts = flat_map (λ t. methods_in t.body) ts
 
-abbrev pub of_instance : Instance → List ℕ
-of_instance i = i.iinit ∷ methods_among i.traits
+abbrev pub methods_of_instance : Instance → List ℕ
+methods_of_instance i = i.iinit ∷ methods_among i.traits
 
 -- an interface's iinit and the methods of its instances are never run
 abbrev pub run_of_instance : Instance → List ℕ
-run_of_instance i = if has_flag i.flags 0x04 then [] else of_instance i
+run_of_instance i = if has_flag i.flags 0x04 then [] else methods_of_instance i
 
-abbrev pub of_class : ClassInfo → List ℕ
-of_class c = c.cinit ∷ methods_among c.traits
+abbrev pub methods_of_class : ClassInfo → List ℕ
+methods_of_class c = c.cinit ∷ methods_among c.traits
 
-abbrev pub of_script : Script → List ℕ
-of_script s = s.init ∷ methods_among s.traits
+abbrev pub methods_of_script : Script → List ℕ
+methods_of_script s = s.init ∷ methods_among s.traits
 
 abbrev pub of_body : Body → List ℕ
 of_body b = methods_among b.traits
 
 -- every method that is named, as often as it is named
 abbrev pub methods_named : Abc → List ℕ
-methods_named v = flat_map of_instance v.instances ++ flat_map of_class v.classes ++ flat_map of_script v.scripts ++ flat_map of_body v.bodies
+methods_named v = flat_map methods_of_instance v.instances ++ flat_map methods_of_class v.classes ++ flat_map methods_of_script v.scripts ++ flat_map of_body v.bodies
 
 -- the same, of methods that are run
 abbrev pub methods_run : Abc → List ℕ
-methods_run v = flat_map run_of_instance v.instances ++ flat_map of_class v.classes ++ flat_map of_script v.scripts ++ flat_map of_body v.bodies
+methods_run v = flat_map run_of_instance v.instances ++ flat_map methods_of_class v.classes ++ flat_map methods_of_script v.scripts ++ flat_map of_body v.bodies
 
 abbrev pub methods_with_bodies : Abc → List ℕ
 methods_with_bodies v = map (λ b. b.method) v.bodies

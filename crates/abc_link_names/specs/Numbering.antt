@@ -11,12 +11,12 @@ abbrev pub part_at : List Part → ℕ → Part
 part_at all x = get_or all x (parts.Host hosts.Object)
 
 -- what a part stands under has a lower number
-pub record IsBehind (v : Abc) (all : List Part) : Type 0 where
+pub record IsNumberedBehind (v : Abc) (all : List Part) : Type 0 where
   pub behind : (x : ℕ) (q : Part) → x < length all → parent v (part_at all x) ≡ Some q → Contains (take x all) q
 
 -- every part that has a layout has one number, and no other has one
 pub record IsNumbering (v : Abc) (all : List Part) : Type 0 where
   pub every : (p : Part) → HasLayout v p → Contains all p
   pub only : All (HasLayout v) all
-  pub behind : IsBehind v all
+  pub behind : IsNumberedBehind v all
   pub apart : (x y : ℕ) → x < y → y < length all → part_at all x ≢ part_at all y

@@ -48,12 +48,12 @@ key_eq a b = nat_eq a.kind b.kind && (nat_eq a.number b.number && nat_eq a.excep
 -- ---- numbers of parts
 
 -- the first place of a part
-abbrev pub place_of : List Part → Part → ℕ
-place_of all p = unwrap_or (first (key_eq (part_key p)) (map part_key all)) 0
+abbrev pub place_of_part : List Part → Part → ℕ
+place_of_part all p = unwrap_or (first (key_eq (part_key p)) (map part_key all)) 0
 
 abbrev pub place_under : List Part → Option Part → Option ℕ
 place_under all None = None
-place_under all (Some q) = Some (place_of all q)
+place_under all (Some q) = Some (place_of_part all q)
 
 -- the layout that a layout stands under
 abbrev pub base_of : Abc → List Part → ℕ → Option ℕ

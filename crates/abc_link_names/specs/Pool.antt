@@ -60,10 +60,10 @@ is_public v a = nat_eq (shared_code (space v a).kind) 0x08 && bytes_eq (text v (
 -- ---- forms of names
 
 -- a QName or a Multiname, kinds 07 and 09
-abbrev pub is_plain : Multiname → Bool
-is_plain (names.QName attr ns string) = not attr
-is_plain (names.Multi attr string set) = not attr
-is_plain other = false
+abbrev pub is_qname_or_multiname : Multiname → Bool
+is_qname_or_multiname (names.QName attr ns string) = not attr
+is_qname_or_multiname (names.Multi attr string set) = not attr
+is_qname_or_multiname other = false
 
 -- the namespaces of a QName: those of the one that it names, or any
 abbrev pub spaces_of : ℕ → Spaces

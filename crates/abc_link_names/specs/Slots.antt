@@ -19,7 +19,7 @@ use Rattle.abc_file_types.specs.declared.tables.Abc.{Abc}
 use Rattle.abc_file_types.specs.declared.traits.TraitBody.{TraitBody}
 use Rattle.abc_file_types.specs.declared.traits.TraitBody.TheVariants as traits
 use Rattle.abc_file_types.specs.declared.traits.TraitInfo.{TraitInfo}
-use Rattle.abc_link_names.specs.Linked.{LinkedFile, base, layout_of}
+use Rattle.abc_link_names.specs.Linked.{LinkedFile, base_layout, layout_of}
 use Rattle.abc_link_names.specs.Types.{type_in}
 use Rattle.abc_link_names.specs.declared.types.SlotInfo.{SlotInfo}
 use Rattle.abc_link_names.specs.declared.types.Ty.TheVariants as types
@@ -47,10 +47,10 @@ slots_in l (traits.Slot id ty value constant) =
 slots_in l (traits.Class id k) = record { ty = types.Of (layout_of l (parts.ClassObject k)); constant = true; start = starts.Null } ∷ []
 slots_in l other = []
 
-abbrev pub numbers_in : TraitBody → List ℕ
-numbers_in (traits.Slot id ty value constant) = id ∷ []
-numbers_in (traits.Class id k) = id ∷ []
-numbers_in other = []
+abbrev pub slot_numbers_in : TraitBody → List ℕ
+slot_numbers_in (traits.Slot id ty value constant) = id ∷ []
+slot_numbers_in (traits.Class id k) = id ∷ []
+slot_numbers_in other = []
 
 -- ---- the own slots of a part, and their numbers; 0 is none
 
@@ -64,20 +64,20 @@ own_slots l p = flat_map (λ t. slots_in l t.body) (traits_of l.file p)
 abbrev pub own_numbers : LinkedFile → Part → List ℕ
 own_numbers l (parts.Host hosts.Class) = 0 ∷ []
 own_numbers l (parts.Catch b e) = 1 ∷ []
-own_numbers l p = flat_map (λ t. numbers_in t.body) (traits_of l.file p)
+own_numbers l p = flat_map (λ t. slot_numbers_in t.body) (traits_of l.file p)
 
 -- ---- with what is inherited
 
 -- all slots of the layout x: those of its bases, the highest base first, and then its own
 abbrev pub slots_of : LinkedFile → ℕ → List SlotInfo
-slots_of l x = heritage (base l) (λ y. own_slots l (part_at l.parts y)) (Some x)
+slots_of l x = heritage (base_layout l) (λ y. own_slots l (part_at l.parts y)) (Some x)
 
-abbrev pub numbers_of : LinkedFile → ℕ → List ℕ
-numbers_of l x = heritage (base l) (λ y. own_numbers l (part_at l.parts y)) (Some x)
+abbrev pub slot_numbers_of : LinkedFile → ℕ → List ℕ
+slot_numbers_of l x = heritage (base_layout l) (λ y. own_numbers l (part_at l.parts y)) (Some x)
 
 -- the first slot of a number above 0, so an inherited one wins
 abbrev pub slot_numbered : LinkedFile → ℕ → ℕ → Option ℕ
-slot_numbered l x k = if nat_eq k 0 then None else first (nat_eq k) (numbers_of l x)
+slot_numbered l x k = if nat_eq k 0 then None else first (nat_eq k) (slot_numbers_of l x)
 
 -- the slots of each layout can be counted by 32 bits
 abbrev pub HasFewSlots : LinkedFile → Type 0

@@ -32,28 +32,28 @@ uint_at v n = if nat_eq n 0 then 0 else get_or v.uints (n - 1) 0
 abbrev pub space_value : ℕ → Raw
 space_value n = if nat_eq n 0 then raws.Null else raws.Space n
 
-abbrev pub raw_of : Abc → ValueKind → ℕ → Raw
-raw_of v kinds.Undefined n = raws.Undefined
-raw_of v kinds.Utf8 n = raws.Text n
-raw_of v kinds.Int n = raws.Int (int_at v n)
-raw_of v kinds.UInt n = raws.UInt (uint_at v n)
-raw_of v kinds.Double n = raws.Double
-raw_of v kinds.False n = raws.Bool false
-raw_of v kinds.True n = raws.Bool true
-raw_of v kinds.Null n = raws.Null
-raw_of v kinds.Private n = space_value n
-raw_of v kinds.Namespace n = space_value n
-raw_of v kinds.Package n = space_value n
-raw_of v kinds.PackageInternal n = space_value n
-raw_of v kinds.Protected n = space_value n
-raw_of v kinds.Explicit n = space_value n
-raw_of v kinds.StaticProtected n = space_value n
+abbrev pub raw_of_option : Abc → ValueKind → ℕ → Raw
+raw_of_option v kinds.Undefined n = raws.Undefined
+raw_of_option v kinds.Utf8 n = raws.Text n
+raw_of_option v kinds.Int n = raws.Int (int_at v n)
+raw_of_option v kinds.UInt n = raws.UInt (uint_at v n)
+raw_of_option v kinds.Double n = raws.Double
+raw_of_option v kinds.False n = raws.Bool false
+raw_of_option v kinds.True n = raws.Bool true
+raw_of_option v kinds.Null n = raws.Null
+raw_of_option v kinds.Private n = space_value n
+raw_of_option v kinds.Namespace n = space_value n
+raw_of_option v kinds.Package n = space_value n
+raw_of_option v kinds.PackageInternal n = space_value n
+raw_of_option v kinds.Protected n = space_value n
+raw_of_option v kinds.Explicit n = space_value n
+raw_of_option v kinds.StaticProtected n = space_value n
 
 -- ---- coercion: nothing where it faults, throws or makes a new text; a double is never read
 
-abbrev pub number_of : Bool → ℤ
-number_of true = pos 1
-number_of false = pos 0
+abbrev pub number_of_truth : Bool → ℤ
+number_of_truth true = pos 1
+number_of_truth false = pos 0
 
 abbrev pub to_any : Raw → Option Start
 to_any raws.Undefined = Some starts.Undefined
@@ -91,7 +91,7 @@ to_int raws.Null = Some (starts.Num (pos 0))
 to_int (raws.Int z) = Some (starts.Num z)
 to_int (raws.UInt n) = Some (starts.Num (cast_signed w32 n))
 to_int raws.Double = None
-to_int (raws.Bool b) = Some (starts.Num (number_of b))
+to_int (raws.Bool b) = Some (starts.Num (number_of_truth b))
 to_int (raws.Text i) = None
 to_int (raws.Space i) = None
 
@@ -101,7 +101,7 @@ to_uint raws.Null = Some (starts.Num (pos 0))
 to_uint (raws.Int z) = Some (starts.Num (pos (cast_unsigned w32 z)))
 to_uint (raws.UInt n) = Some (starts.Num (pos n))
 to_uint raws.Double = None
-to_uint (raws.Bool b) = Some (starts.Num (number_of b))
+to_uint (raws.Bool b) = Some (starts.Num (number_of_truth b))
 to_uint (raws.Text i) = None
 to_uint (raws.Space i) = None
 
@@ -111,13 +111,13 @@ to_number raws.Null = Some (starts.Num (pos 0))
 to_number (raws.Int z) = Some (starts.Num z)
 to_number (raws.UInt n) = Some (starts.Num (pos n))
 to_number raws.Double = None
-to_number (raws.Bool b) = Some (starts.Num (number_of b))
+to_number (raws.Bool b) = Some (starts.Num (number_of_truth b))
 to_number (raws.Text i) = None
 to_number (raws.Space i) = None
 
-abbrev pub is_empty : List ℕ → Bool
-is_empty [] = true
-is_empty (b ∷ bs) = false
+abbrev pub is_empty_text : List ℕ → Bool
+is_empty_text [] = true
+is_empty_text (b ∷ bs) = false
 
 abbrev pub to_boolean : Abc → Raw → Option Start
 to_boolean v raws.Undefined = Some (starts.Bool false)
@@ -126,7 +126,7 @@ to_boolean v (raws.Int z) = Some (starts.Bool (not (int_eq z (pos 0))))
 to_boolean v (raws.UInt n) = Some (starts.Bool (not (nat_eq n 0)))
 to_boolean v raws.Double = None
 to_boolean v (raws.Bool b) = Some (starts.Bool b)
-to_boolean v (raws.Text i) = Some (starts.Bool (not (is_empty (text v i))))
+to_boolean v (raws.Text i) = Some (starts.Bool (not (is_empty_text (text v i))))
 to_boolean v (raws.Space i) = Some (starts.Bool true)
 
 -- a namespace becomes its name; a number would make a new text
@@ -177,11 +177,11 @@ to_host v hosts.ReferenceError r = to_class r
 to_host v hosts.ArgumentError r = to_class r
 to_host v hosts.Array r = to_class r
 
-abbrev pub coerced : Abc → Named → Raw → Option Start
-coerced v named.Any r = to_any r
-coerced v named.Void r = to_void r
-coerced v (named.Host h) r = to_host v h r
-coerced v (named.Class k) r = to_class r
+abbrev pub start_as : Abc → Named → Raw → Option Start
+start_as v named.Any r = to_any r
+start_as v named.Void r = to_void r
+start_as v (named.Host h) r = to_host v h r
+start_as v (named.Class k) r = to_class r
 
 -- ---- without a value
 
@@ -201,4 +201,4 @@ default_of (named.Class k) = starts.Null
 -- the value at which a slot of a type starts, if there is one
 abbrev pub start_of : Abc → Named → Option OptionValue → Option Start
 start_of v t None = Some (default_of t)
-start_of v t (Some o) = coerced v t (raw_of v o.kind o.value)
+start_of v t (Some o) = start_as v t (raw_of_option v o.kind o.value)

@@ -1,5 +1,5 @@
 ghost use Rattle.std.specs.Prelude.{◌≡◌};
-ghost use Rattle.abc_link_names.specs.Starts.{coerced, default_of, host_default as default_in, int_at as int_in, raw_of, space_value as space_of, start_of as starts_at, to_any as any_of, to_boolean as boolean_of, to_class as class_of, to_host as host_of, to_int as int_of, to_namespace as namespace_of, to_number as number_from, to_object as object_of, to_text as text_of, to_uint as uint_of, to_void as void_of, uint_at as uint_in};
+ghost use Rattle.abc_link_names.specs.Starts.{start_as, default_of, host_default as default_in, int_at as int_in, raw_of_option, space_value as space_of, start_of as starts_at, to_any as any_of, to_boolean as boolean_of, to_class as class_of, to_host as host_of, to_int as int_of, to_namespace as namespace_of, to_number as number_from, to_object as object_of, to_text as text_of, to_uint as uint_of, to_void as void_of, uint_at as uint_in};
 
 use crate::named::Named;
 use crate::pool::{space_name, text_at};
@@ -47,7 +47,7 @@ fn space_value(index: u32) -> Raw
 
 /// The value of a trait.
 fn raw_value(abc: &Abc, value: OptionValue) -> Raw
-    ensures { result ≡ raw_of abc.now value.kind value.value }
+    ensures { result ≡ raw_of_option abc.now value.kind value.value }
 {
     match value.kind {
         ValueKind::Undefined => Raw::Undefined,

@@ -1,5 +1,5 @@
 ghost use Rattle.std.specs.Prelude.{◌≡◌};
-ghost use Rattle.abc_link_names.specs.Items.{kind_name, rule_name};
+ghost use Rattle.abc_link_names.specs.Items.{kind_name, link_rule_name};
 
 /// The rules of linking, in the order in which they are tried.
 #[derive(Clone, Copy, Debug, PartialEq, Eq)]
@@ -37,7 +37,7 @@ pub enum LinkRule {
 impl LinkRule {
     /// The rule's name, as error lines show it.
     pub fn name(&self) -> &[u8]
-        ensures { result.now ≡ rule_name self.now }
+        ensures { result.now ≡ link_rule_name self.now }
     {
         match self {
             LinkRule::NoScript => b"NoScript",

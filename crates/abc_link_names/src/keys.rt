@@ -67,7 +67,10 @@ impl Names<'_> {
 
     /// Two names have equal keys exactly where their texts and their namespaces are equal.
     pub fn keys_tell_names(&self)
-        ensures { (a b : DefiniteNameOf) → keys_eq (name_key self.now.abc.now self.now.tables.now.numbers a) (name_key self.now.abc.now self.now.tables.now.numbers b) ≡ same_name self.now.abc.now a b }
+        ensures { (a b : DefiniteNameOf)
+            → keys_eq (name_key self.now.abc.now self.now.tables.now.numbers a)
+            (name_key self.now.abc.now self.now.tables.now.numbers b)
+            ≡ same_name self.now.abc.now a b }
     {
         let _tables = &self.tables;
     }

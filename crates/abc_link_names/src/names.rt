@@ -2,9 +2,9 @@ ghost use Rattle.std.specs.Prelude.{◌≡◌, find};
 ghost use Rattle.std.specs.List.{list_any};
 ghost use Rattle.abc_base_graphs.specs.Index.{first};
 ghost use Rattle.abc_link_names.specs.Pool.{is_public, same_space};
-ghost use Rattle.abc_link_names.specs.Meaning.{class_name_of, holds, holds_public, is_class_named};
+ghost use Rattle.abc_link_names.specs.Meaning.{class_name_of, holds_space, holds_public, is_class_named};
 ghost use Rattle.abc_link_names.specs.Instances.{instance_at};
-ghost use Rattle.abc_link_names.specs.Numbers.{AreNames, number};
+ghost use Rattle.abc_link_names.specs.Numbers.{AreNames, number_of_text};
 
 use crate::named::{DefiniteName, PlainName, Spaces};
 use crate::pool::{definite_name_at, set_at, shared_code, space_at, text_at};
@@ -31,7 +31,7 @@ impl<'a> Names<'a> {
 
     /// The number of the text of a string.
     pub fn number(&self, string: u32) -> u32
-        ensures { result ≡ number self.now.tables.now.numbers string }
+        ensures { result ≡ number_of_text self.now.tables.now.numbers string }
     {
         number_of(&self.tables.numbers, string)
     }
@@ -84,7 +84,7 @@ impl<'a> Names<'a> {
 
     /// Whether one of the namespaces of a name is equal to a namespace of the pool.
     pub fn holds(&self, spaces: Spaces, space: u32) -> bool
-        ensures { result ≡ holds self.now.abc.now spaces space }
+        ensures { result ≡ holds_space self.now.abc.now spaces space }
     {
         match spaces {
             Spaces::Every => true,

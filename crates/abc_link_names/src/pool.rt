@@ -1,5 +1,5 @@
 ghost use Rattle.std.specs.Prelude.{◌≡◌, MatchOption};
-ghost use Rattle.abc_link_names.specs.Pool.{name, no_name, text, set, space, shared_code as code_of, plain_name, definite_name, is_plain, qname};
+ghost use Rattle.abc_link_names.specs.Pool.{name, no_name, text, set, space, shared_code as code_of, plain_name, definite_name, is_qname_or_multiname, qname};
 
 use crate::named::{DefiniteName, PlainName, Spaces};
 use abc_file_types::{Abc, Multiname, Namespace, NsKind};
@@ -129,7 +129,7 @@ fn qname_of(multiname: &Multiname) -> DefiniteName
 
 /// Whether a name is a QName or a Multiname.
 fn is_plain_name(multiname: &Multiname) -> bool
-    ensures { result ≡ is_plain multiname.now }
+    ensures { result ≡ is_qname_or_multiname multiname.now }
 {
     match multiname {
         Multiname::QName { attr, .. } | Multiname::Multi { attr, .. } => !*attr,
@@ -173,7 +173,7 @@ pub fn definite_name_at(abc: &Abc, index: u32) -> Option<DefiniteName>
 
 /// Whether a name of the pool is a QName or a Multiname; 0 is none.
 pub fn is_plain_at(abc: &Abc, index: u32) -> bool
-    ensures { result ≡ is_plain (name abc.now index) }
+    ensures { result ≡ is_qname_or_multiname (name abc.now index) }
 {
     match name_at(abc, index) {
         Some(multiname) => is_plain_name(multiname),

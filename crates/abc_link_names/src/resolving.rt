@@ -1,7 +1,7 @@
 ghost use Rattle.std.specs.Prelude.{◌≡◌, None, find};
 ghost use Rattle.abc_base_graphs.specs.Index.{first};
 ghost use Rattle.abc_link_names.specs.Instances.{instance_at};
-ghost use Rattle.abc_link_names.specs.Meaning.{class_name_of, class_or_host, has_name, holds_public, is_class_named, resolve};
+ghost use Rattle.abc_link_names.specs.Meaning.{class_name_of, class_or_host, is_definite_name, holds_public, is_class_named, resolve};
 ghost use Rattle.abc_link_names.specs.Numbers.{classes_of};
 
 use crate::hosts::host_named;
@@ -23,7 +23,7 @@ impl Names<'_> {
 
     /// Whether a name names a class that has a definite name.
     fn names(&self, name: PlainName, class_name: Option<DefiniteName>) -> bool
-        ensures { result ≡ has_name self.now.abc.now name class_name }
+        ensures { result ≡ is_definite_name self.now.abc.now name class_name }
     {
         match class_name {
             Some(definite) => {
@@ -36,7 +36,8 @@ impl Names<'_> {
 
     /// The first of some classes that a name names.
     fn first_among(&self, name: PlainName, classes: &[u32]) -> Option<u32>
-        ensures { result ≡ find (λ i. is_class_named self.now.abc.now name (instance_at self.now.abc.now i)) classes.now }
+        ensures { result
+            ≡ find (λ i. is_class_named self.now.abc.now name (instance_at self.now.abc.now i)) classes.now }
     {
         for class in classes {
             if self.names(name, self.class_name(*class)) {

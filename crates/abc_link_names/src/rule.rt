@@ -1,7 +1,7 @@
 ghost use Rattle.std.specs.Prelude.{◌≡◌, ◌<◌, ◌+◌, ◌^◌, ◌↔◌, IsTrue, IfOk, MatchResult};
 ghost use Rattle.abc_link_names.specs.Items.{IsItem, count_of, rule_number, kind_number};
 ghost use Rattle.abc_link_names.specs.Rules.{Breaks, AllHoldBefore, IsFirstBroken};
-ghost use Rattle.abc_link_names.specs.Firsts.{IsFirstOfKind, IsFirstItem, IsFirstBelow, IsRefusal, IsFew};
+ghost use Rattle.abc_link_names.specs.Firsts.{IsFirstOfKind, IsFirstItem, IsFirstBelow, IsLinkRefusal, IsFew};
 
 use crate::error::LinkError;
 use crate::items::{Item, ItemKind, LinkRule};
@@ -108,7 +108,8 @@ fn first_item<R: Rule>(alloc: Global, rule: &R) -> Result<Option<Item>, NoMemory
 pub fn check<R: Rule>(alloc: Global, rule: &R) -> Result<(), LinkError>
     requires few { IsFew (R.file rule.now) }
     requires before { AllHoldBefore (R.file rule.now) (rule_number (R.rule rule.now)) }
-    ensures { MatchResult result (λ _. AllHoldBefore (R.file rule.now) (rule_number (R.rule rule.now) + 1)) (IsRefusal (R.file rule.now)) }
+    ensures { MatchResult result (λ _. AllHoldBefore (R.file rule.now) (rule_number (R.rule rule.now) + 1))
+        (IsLinkRefusal (R.file rule.now)) }
 {
     match first_item(alloc, rule)? {
         Some(item) => Err(LinkError::Refused {

@@ -1,6 +1,6 @@
 ghost use Rattle.std.specs.Prelude.{◌≡◌, ◌+◌, ◌<◌, ◌^◌, length, IfOk, IsTrue};
 ghost use Rattle.abc_link_names.specs.Pool.{definite_name, name as name_of};
-ghost use Rattle.abc_link_names.specs.Numbers.{AreNames, number as number_in, key_of as key_in, class_keys as keys_of};
+ghost use Rattle.abc_link_names.specs.Numbers.{AreNames, number_of_text as number_in, key_of_name as key_in, class_keys as keys_of};
 
 use crate::pool::definite_name_at;
 use abc_base::{NoMemory, Table};

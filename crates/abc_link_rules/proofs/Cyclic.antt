@@ -13,7 +13,7 @@ use Rattle.abc_link_names.specs.Items.{IsItem, StandsBefore, count_of, kind_numb
 use Rattle.abc_link_names.specs.Bases.{base_graph, interface_graph}
 use Rattle.abc_link_names.specs.Rules.{Breaks, AllHoldBefore, IsFirstBroken, is_kind}
 use Rattle.abc_link_names.specs.Firsts.{item}
-use Rattle.abc_link_rules.specs.Cycles.{earlier}
+use Rattle.abc_link_rules.specs.Cycles.{earlier_class}
 use Rattle.abc_link_names.proofs.FirstBroken.{one_more}
 
 -- the first class that returns over one graph or the other
@@ -21,7 +21,7 @@ abbrev pub IsFirstOfTwo : List (List ℕ) → List (List ℕ) → Option ℕ →
 IsFirstOfTwo g h None = (x : ℕ) → x < length g → Returns g x ⊎ Returns h x → ⊥
 IsFirstOfTwo g h (Some x) = (x < length g) × (Returns g x ⊎ Returns h x) × ((y : ℕ) → y < x → Returns g y ⊎ Returns h y → ⊥)
 
-pub first_of_two : (g h : List (List ℕ)) (a b : Option ℕ) → length g ≡ length h → IsFirstReturn g a → IsFirstReturn h b → IsFirstOfTwo g h (earlier a b)
+pub first_of_two : (g h : List (List ℕ)) (a b : Option ℕ) → length g ≡ length h → IsFirstReturn g a → IsFirstReturn h b → IsFirstOfTwo g h (earlier_class a b)
 first_of_two g h None None len p q = λ x lt r. go x lt r
   where
     go : (x : ℕ) → x < length g → Returns g x ⊎ Returns h x → ⊥
@@ -69,13 +69,13 @@ of_both : (v : Abc) (g h : List (List ℕ)) (x : ℕ) → g ≡ base_graph v →
 of_both v g h x e f (inl r) = inl (subst (λ (l : List (List ℕ)). Returns l x) e r)
 of_both v g h x e f (inr r) = inr (subst (λ (l : List (List ℕ)). Returns l x) f r)
 
-found : (v : Abc) (g h : List (List ℕ)) (a b r : Option ℕ) → g ≡ base_graph v → h ≡ interface_graph v → IsFirstReturn g a → IsFirstReturn h b → r ≡ earlier a b → IsFirstOfTwo g h r
+found : (v : Abc) (g h : List (List ℕ)) (a b r : Option ℕ) → g ≡ base_graph v → h ≡ interface_graph v → IsFirstReturn g a → IsFirstReturn h b → r ≡ earlier_class a b → IsFirstOfTwo g h r
 found v g h a b r e f p q is = subst (IsFirstOfTwo g h) (sym is) (first_of_two g h a b (base_len v g e ∙ sym (interface_len v h f)) p q)
 
 within : (v : Abc) (j : Item) → IsItem v j → j.kind ≡ kinds.Class → j.index < length v.instances
 within v j i e = subst (λ k. j.index < count_of v k) e i.within
 
-pub holds : (v : Abc) (g h : List (List ℕ)) (a b r : Option ℕ) → g ≡ base_graph v → h ≡ interface_graph v → IsFirstReturn g a → IsFirstReturn h b → r ≡ earlier a b → r ≡ None → AllHoldBefore v 4 → AllHoldBefore v 5
+pub holds : (v : Abc) (g h : List (List ℕ)) (a b r : Option ℕ) → g ≡ base_graph v → h ≡ interface_graph v → IsFirstReturn g a → IsFirstReturn h b → r ≡ earlier_class a b → r ≡ None → AllHoldBefore v 4 → AllHoldBefore v 5
 holds v g h a b r e f p q is none before =
     let n = subst (IsFirstOfTwo g h) none (found v g h a b r e f p q is) in
     one_more v rules.BaseCycle before
@@ -83,7 +83,7 @@ holds v g h a b r e f p q is none before =
     let lt = within v j i (class_only j.kind br.0) in
     n j.index (omega (arith, base_len v g e)) (both_of v g h j.index e f br.1))
 
-pub refuses : (v : Abc) (g h : List (List ℕ)) (a b r : Option ℕ) (k : ℕ) → g ≡ base_graph v → h ≡ interface_graph v → IsFirstReturn g a → IsFirstReturn h b → r ≡ earlier a b → r ≡ Some k → AllHoldBefore v 4 → IsFirstBroken v rules.BaseCycle (item kinds.Class k)
+pub refuses : (v : Abc) (g h : List (List ℕ)) (a b r : Option ℕ) (k : ℕ) → g ≡ base_graph v → h ≡ interface_graph v → IsFirstReturn g a → IsFirstReturn h b → r ≡ earlier_class a b → r ≡ Some k → AllHoldBefore v 4 → IsFirstBroken v rules.BaseCycle (item kinds.Class k)
 refuses v g h a b r k e f p q is some before =
     let n = subst (IsFirstOfTwo g h) some (found v g h a b r e f p q is) in
     record {

@@ -19,7 +19,7 @@ use Rattle.abc_file_types.specs.declared.traits.TraitBody.TheVariants as traits
 use Rattle.abc_file_types.specs.declared.traits.TraitInfo.{TraitInfo}
 use Rattle.abc_link_rules.specs.declared.same_name.SidedKey.{SidedKey}
 use Rattle.abc_link_rules.specs.Clashes.{TellsSides, first_of_both, first_of_name, is_clash_of}
-use Rattle.abc_link_rules.specs.Repeats.{side_of, opposite, sided_key, sided_eq, keys_clash, no_key, no_sided, clashes_with, is_elsewhere, clashes_at}
+use Rattle.abc_link_rules.specs.Repeats.{side_of, opposite, sided_key, sided_eq, keys_clash, no_repeat_key, no_sided, clashes_with, is_elsewhere, clashes_at}
 use Rattle.abc_link_names.specs.ItemTypes.{any_pair, are_accessors, names_clash}
 use Rattle.abc_link_names.proofs.ItemsPairs.{first_found, first_hit, first_low, pair_found, pair_makes, pair_map}
 
@@ -118,8 +118,8 @@ at keys i = get_or keys i no_sided
 abbrev names_of : List SidedKey → List NameKey
 names_of keys = map (λ k. k.name) keys
 
-name_at : (keys : List SidedKey) (i : ℕ) → i < length keys → get_or (names_of keys) i no_key ≡ (at keys i).name
-name_at keys i lt = get_or-map (λ (k : SidedKey). k.name) keys i no_sided no_key lt
+name_at : (keys : List SidedKey) (i : ℕ) → i < length keys → get_or (names_of keys) i no_repeat_key ≡ (at keys i).name
+name_at keys i lt = get_or-map (λ (k : SidedKey). k.name) keys i no_sided no_repeat_key lt
 
 names_len : (keys : List SidedKey) → length (names_of keys) ≡ length keys
 names_len keys = length-map keys (λ (k : SidedKey). k.name)
@@ -135,11 +135,11 @@ meets_name keys i None lt f e = absurd (false≢true e)
 meets_name keys i (Some j) lt f e =
     let p = both (not (nat_eq j i)) (not (opposite (at keys j).side (at keys i).side)) e in
     let test : NameKey → Bool = keys_eq (at keys i).name in
-    let h = first_hit test (names_of keys) no_key j f in
+    let h = first_hit test (names_of keys) no_repeat_key j f in
     let within : j < length keys = let q = names_len keys in let l = h.0 in omega arith in
-    let same : (at keys i).name ≡ (at keys j).name = key_same (at keys i).name (get_or (names_of keys) j no_key) h.1 ∙ name_at keys j within in
-    let mine : test (get_or (names_of keys) i no_key) ≡ true = key_equal (at keys i).name (get_or (names_of keys) i no_key) (sym (name_at keys i lt)) in
-    let low : j ≤ i = first_low test (names_of keys) no_key i j (let q = names_len keys in omega arith) mine f in
+    let same : (at keys i).name ≡ (at keys j).name = key_same (at keys i).name (get_or (names_of keys) j no_repeat_key) h.1 ∙ name_at keys j within in
+    let mine : test (get_or (names_of keys) i no_repeat_key) ≡ true = key_equal (at keys i).name (get_or (names_of keys) i no_repeat_key) (sym (name_at keys i lt)) in
+    let low : j ≤ i = first_low test (names_of keys) no_repeat_key i j (let q = names_len keys in omega arith) mine f in
     pair_makes keys_clash keys no_sided j i (less j i (was_false (nat_eq j i) p.0) low) lt
     (ap (λ c. c && not (opposite (at keys j).side (at keys i).side)) (key_equal (at keys j).name (at keys i).name (sym same)) ∙ p.1)
 
@@ -180,8 +180,8 @@ never keys none a b lt within e =
     let p = both (keys_eq (at keys a).name (at keys b).name) (not (opposite (at keys a).side (at keys b).side)) e in
     let same : (at keys a).name ≡ (at keys b).name = key_same (at keys a).name (at keys b).name p.0 in
     let test : NameKey → Bool = keys_eq (at keys b).name in
-    let at_a : test (get_or (names_of keys) a no_key) ≡ true = key_equal (at keys b).name (get_or (names_of keys) a no_key) (sym same ∙ sym (name_at keys a (omega arith))) in
-    let f = first_found test (names_of keys) no_key a (let q = names_len keys in omega arith) at_a in
+    let at_a : test (get_or (names_of keys) a no_repeat_key) ≡ true = key_equal (at keys b).name (get_or (names_of keys) a no_repeat_key) (sym same ∙ sym (name_at keys a (omega arith))) in
+    let f = first_found test (names_of keys) no_repeat_key a (let q = names_len keys in omega arith) at_a in
     let le = f.2 in
     let of_a : first_of_name keys a ≡ Some f.0 = ap (λ (k : NameKey). first (keys_eq k) (names_of keys)) same ∙ f.1 in
     let nb = neither (clashes_with keys (first_of_name keys b) b) (is_elsewhere (first_of_both keys b) b) (none b within) in
@@ -251,8 +251,8 @@ clashes_sideless keys i j lt none f ne =
     let low : j ≤ i = first_low test keys no_sided i j lt (sided_equal (at keys i) (at keys i) refl refl) f in
     let below : j < i = less j i ne low in
     let within : j < length (names_of keys) = let q = names_len keys in let l = h.0 in omega arith in
-    let named : keys_eq (at keys i).name (get_or (names_of keys) j no_key) ≡ true = key_equal (at keys i).name (get_or (names_of keys) j no_key) (ap (λ (k : SidedKey). k.name) same ∙ sym (name_at keys j h.0)) in
-    let m = first_found (keys_eq (at keys i).name) (names_of keys) no_key j within named in
+    let named : keys_eq (at keys i).name (get_or (names_of keys) j no_repeat_key) ≡ true = key_equal (at keys i).name (get_or (names_of keys) j no_repeat_key) (ap (λ (k : SidedKey). k.name) same ∙ sym (name_at keys j h.0)) in
+    let m = first_found (keys_eq (at keys i).name) (names_of keys) no_repeat_key j within named in
     let le = m.2 in
     ap (λ o. clashes_with keys o i) m.1
     ∙ ap (λ c. not c && not (opposite (at keys m.0).side (at keys i).side)) (differ m.0 i (omega arith))

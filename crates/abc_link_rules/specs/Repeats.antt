@@ -37,11 +37,11 @@ sided_eq a b = keys_eq a.name b.name && nat_eq a.side b.side
 abbrev pub keys_clash : SidedKey → SidedKey → Bool
 keys_clash a b = keys_eq a.name b.name && not (opposite a.side b.side)
 
-abbrev pub no_key : NameKey
-no_key = record { text = 0; code = 0; name = 0; place = 0 }
+abbrev pub no_repeat_key : NameKey
+no_repeat_key = record { text = 0; code = 0; name = 0; place = 0 }
 
 abbrev pub no_sided : SidedKey
-no_sided = record { name = no_key; side = 0 }
+no_sided = record { name = no_repeat_key; side = 0 }
 
 -- the first key of the same name stands elsewhere, and is not of the other side
 abbrev pub clashes_with : List SidedKey → Option ℕ → ℕ → Bool

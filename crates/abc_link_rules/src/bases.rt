@@ -175,7 +175,10 @@ pub(crate) struct UnknownInterface<'a> {
 impl UnknownInterface<'_> {
     /// Whether one of several names stands for no interface of the file.
     fn any_unknown(&self, names: &[u32]) -> bool
-        ensures { result ≡ list_any (λ n. not (is_interface_of self.now.meanings.abc.now (resolve self.now.meanings.abc.now n))) names.now }
+        ensures { result
+            ≡ list_any
+            (λ n. not (is_interface_of self.now.meanings.abc.now (resolve self.now.meanings.abc.now n)))
+            names.now }
     {
         for name in names {
             if !is_interface_named(self.meanings.abc, self.meanings.resolve(*name)) {

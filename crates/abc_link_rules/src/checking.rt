@@ -2,7 +2,7 @@ ghost use Rattle.std.specs.Prelude.{◌≡◌, ◌<◌, ◌^◌, length, IsTrue,
 ghost use Rattle.abc_link_names.specs.Meanings.{AreMeanings};
 ghost use Rattle.abc_link_names.specs.Numbers.{AreNames};
 ghost use Rattle.abc_link_names.specs.Rules.{AllHold, AllHoldBefore};
-ghost use Rattle.abc_link_names.specs.Firsts.{IsFew, IsRefusal};
+ghost use Rattle.abc_link_names.specs.Firsts.{IsFew, IsLinkRefusal};
 
 use crate::bases::{BaseIsInterface, FinalBase, UnknownBase, UnknownInterface};
 use crate::cycles::check_cycles;
@@ -33,7 +33,8 @@ pub fn are_few(abc: &Abc) -> bool
 #[tactic(auto, using(abc_link_names::proofs::FirstBroken::none_before))]
 fn check_names(alloc: Global, meanings: &Meanings<'_>) -> Result<(), LinkError>
     requires { IsFew meanings.now.abc.now }
-    ensures { MatchResult result (λ _. AllHoldBefore meanings.now.abc.now 4) (IsRefusal meanings.now.abc.now) }
+    ensures { MatchResult result (λ _. AllHoldBefore meanings.now.abc.now 4)
+        (IsLinkRefusal meanings.now.abc.now) }
 {
     let abc = meanings.abc;
     check(alloc, &NoScript { abc })?;
@@ -51,7 +52,8 @@ fn check_names(alloc: Global, meanings: &Meanings<'_>) -> Result<(), LinkError>
 fn check_base_cycle(alloc: Global, meanings: &Meanings<'_>) -> Result<(), LinkError>
     requires few { IsFew meanings.now.abc.now }
     requires before { AllHoldBefore meanings.now.abc.now 4 }
-    ensures { MatchResult result (λ _. AllHoldBefore meanings.now.abc.now 5) (IsRefusal meanings.now.abc.now) }
+    ensures { MatchResult result (λ _. AllHoldBefore meanings.now.abc.now 5)
+        (IsLinkRefusal meanings.now.abc.now) }
 {
     let bases = base_graph(alloc, meanings)?;
     let interfaces = interface_graph(alloc, meanings)?;
@@ -62,7 +64,8 @@ fn check_base_cycle(alloc: Global, meanings: &Meanings<'_>) -> Result<(), LinkEr
 fn check_bases(alloc: Global, meanings: &Meanings<'_>) -> Result<(), LinkError>
     requires few { IsFew meanings.now.abc.now }
     requires before { AllHoldBefore meanings.now.abc.now 4 }
-    ensures { MatchResult result (λ _. AllHoldBefore meanings.now.abc.now 9) (IsRefusal meanings.now.abc.now) }
+    ensures { MatchResult result (λ _. AllHoldBefore meanings.now.abc.now 9)
+        (IsLinkRefusal meanings.now.abc.now) }
 {
     let meanings = *meanings;
     check_base_cycle(alloc, &meanings)?;
@@ -76,7 +79,7 @@ fn check_bases(alloc: Global, meanings: &Meanings<'_>) -> Result<(), LinkError>
 fn check_owners(alloc: Global, abc: &Abc) -> Result<(), LinkError>
     requires few { IsFew abc.now }
     requires before { AllHoldBefore abc.now 9 }
-    ensures { MatchResult result (λ _. AllHoldBefore abc.now 10) (IsRefusal abc.now) }
+    ensures { MatchResult result (λ _. AllHoldBefore abc.now 10) (IsLinkRefusal abc.now) }
 {
     let methods = methods_named(alloc, abc)?;
     let times = times_of(alloc, methods.as_slice(), abc.methods.len())?;
@@ -88,7 +91,7 @@ fn check_owners(alloc: Global, abc: &Abc) -> Result<(), LinkError>
 fn check_method_bodies(alloc: Global, abc: &Abc) -> Result<(), LinkError>
     requires few { IsFew abc.now }
     requires before { AllHoldBefore abc.now 10 }
-    ensures { MatchResult result (λ _. AllHoldBefore abc.now 11) (IsRefusal abc.now) }
+    ensures { MatchResult result (λ _. AllHoldBefore abc.now 11) (IsLinkRefusal abc.now) }
 {
     let run = methods_run(alloc, abc)?;
     let run_times = times_of(alloc, run.as_slice(), abc.methods.len())?;
@@ -110,7 +113,7 @@ fn check_traits(
     requires meanings { AreMeanings abc.now table.now }
     requires few { IsFew abc.now }
     requires before { AllHoldBefore abc.now 11 }
-    ensures { MatchResult result (λ _. AllHold abc.now) (IsRefusal abc.now) }
+    ensures { MatchResult result (λ _. AllHold abc.now) (IsLinkRefusal abc.now) }
 {
     let names = Names { abc, tables };
     let meanings = Meanings { abc, table };
@@ -130,7 +133,7 @@ pub fn check_rules(
 ) -> Result<(), LinkError>
     requires names { AreNames abc.now tables.now }
     requires meanings { AreMeanings abc.now table.now }
-    ensures { MatchResult result (λ _. AllHold abc.now) (IsRefusal abc.now) }
+    ensures { MatchResult result (λ _. AllHold abc.now) (IsLinkRefusal abc.now) }
 {
     if !are_few(abc) {
         return Err(LinkError::NoMemory);

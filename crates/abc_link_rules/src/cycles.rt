@@ -1,9 +1,9 @@
 ghost use Rattle.std.specs.Prelude.{◌≡◌, ◌^◌, ◌<◌, length, MatchResult};
 ghost use Rattle.abc_base_graphs.specs.Graph.{IsGraph};
-ghost use Rattle.abc_link_rules.specs.Cycles.{earlier as earlier_of};
+ghost use Rattle.abc_link_rules.specs.Cycles.{earlier_class as earlier_of};
 ghost use Rattle.abc_link_names.specs.Bases.{base_graph, interface_graph};
 ghost use Rattle.abc_link_names.specs.Rules.{AllHoldBefore};
-ghost use Rattle.abc_link_names.specs.Firsts.{IsRefusal, IsFew};
+ghost use Rattle.abc_link_names.specs.Firsts.{IsLinkRefusal, IsFew};
 
 use abc_base::Table;
 use abc_base_graphs::first_return;
@@ -37,7 +37,7 @@ pub(crate) fn check_cycles(
     requires bases_known { IsGraph bases.now }
     requires interfaces_known { IsGraph interfaces.now }
     requires before { AllHoldBefore _abc.now 4 }
-    ensures { MatchResult result (λ _. AllHoldBefore _abc.now 5) (IsRefusal _abc.now) }
+    ensures { MatchResult result (λ _. AllHoldBefore _abc.now 5) (IsLinkRefusal _abc.now) }
 {
     let base = first_return(alloc, bases)?;
     let interface = first_return(alloc, interfaces)?;

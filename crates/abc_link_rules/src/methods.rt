@@ -1,6 +1,6 @@
 ghost use Rattle.std.specs.Prelude.{◌≡◌, ◌++◌, ◌∷◌, [], length, map, IfOk, OnOk};
 ghost use Rattle.std.specs.List.{flat_map};
-ghost use Rattle.abc_link_names.specs.Methods.{methods_among, methods_in, methods_named as all_named, methods_run as all_run, methods_with_bodies as all_with_bodies, of_body, of_class, of_instance, of_script, run_of_instance};
+ghost use Rattle.abc_link_names.specs.Methods.{methods_among, methods_in, methods_named as all_named, methods_run as all_run, methods_with_bodies as all_with_bodies, of_body, methods_of_class, methods_of_instance, methods_of_script, run_of_instance};
 
 use abc_base::NoMemory;
 use abc_file_types::{Abc, Instance, TraitBody, TraitInfo, has_flag};
@@ -51,7 +51,8 @@ fn push_run(list: &mut Vec<u32>, instance: &Instance) -> Result<(), NoMemory>
 }
 
 fn push_instances(list: &mut Vec<u32>, abc: &Abc) -> Result<(), NoMemory>
-    ensures { OnOk result (list.new.items ≡ list.old.items ++ flat_map of_instance abc.now.instances) }
+    ensures { OnOk result
+        (list.new.items ≡ list.old.items ++ flat_map methods_of_instance abc.now.instances) }
 {
     for instance in abc.instances.as_slice() {
         push_part(list, instance.iinit, instance.traits.as_slice())?;
@@ -69,7 +70,7 @@ fn push_run_instances(list: &mut Vec<u32>, abc: &Abc) -> Result<(), NoMemory>
 }
 
 fn push_classes(list: &mut Vec<u32>, abc: &Abc) -> Result<(), NoMemory>
-    ensures { OnOk result (list.new.items ≡ list.old.items ++ flat_map of_class abc.now.classes) }
+    ensures { OnOk result (list.new.items ≡ list.old.items ++ flat_map methods_of_class abc.now.classes) }
 {
     for class in abc.classes.as_slice() {
         push_part(list, class.cinit, class.traits.as_slice())?;
@@ -78,7 +79,7 @@ fn push_classes(list: &mut Vec<u32>, abc: &Abc) -> Result<(), NoMemory>
 }
 
 fn push_scripts(list: &mut Vec<u32>, abc: &Abc) -> Result<(), NoMemory>
-    ensures { OnOk result (list.new.items ≡ list.old.items ++ flat_map of_script abc.now.scripts) }
+    ensures { OnOk result (list.new.items ≡ list.old.items ++ flat_map methods_of_script abc.now.scripts) }
 {
     for script in abc.scripts.as_slice() {
         push_part(list, script.init, script.traits.as_slice())?;

@@ -70,7 +70,8 @@ fn sided_keys(
     names: &Names<'_>,
     table: &[TraitInfo],
 ) -> Result<Vec<SidedKey>, NoMemory>
-    ensures { IfOk result (λ keys. keys.items ≡ map (sided_of names.now.abc.now names.now.tables.now.numbers) table.now) }
+    ensures { IfOk result
+        (λ keys. keys.items ≡ map (sided_of names.now.abc.now names.now.tables.now.numbers) table.now) }
 {
     let mut keys = Vec::with_capacity(alloc, table.len())?;
     for info in table {
@@ -214,7 +215,8 @@ fn any_clash_in(
     sided: &IndexMap<SidedKey, u32>,
 ) -> bool
     requires few { length keys.now < 2 ^ 32 }
-    requires names { (k : AnyNameKey) → get keys_eq firsts.now k ≡ first (keys_eq k) (map (λ s. s.name) keys.now) }
+    requires names { (k : AnyNameKey)
+        → get keys_eq firsts.now k ≡ first (keys_eq k) (map (λ s. s.name) keys.now) }
     requires sides { TellsSides keys.now sided.now }
     ensures { result ≡ any_pair keys_clash keys.now }
 {
@@ -272,7 +274,9 @@ impl SameName<'_> {
     }
 
     fn breaks(&self, alloc: Global, item: Item) -> Result<bool, NoMemory>
-        ensures { IfOk result (λ b. b ≡ any_table (any_pair (names_clash self.now.names.abc.now)) self.now.names.abc.now item.kind item.index) }
+        ensures { IfOk result (λ b. b
+            ≡ any_table (any_pair (names_clash self.now.names.abc.now)) self.now.names.abc.now item.kind
+            item.index) }
     {
         let of_instances = self.is_name_shared(alloc, instance_table(self.names.abc, item))?;
         let own = self.is_name_shared(alloc, own_table(self.names.abc, item))?;

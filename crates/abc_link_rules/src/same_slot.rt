@@ -96,7 +96,8 @@ fn is_slot_shared(alloc: Global, table: &[TraitInfo]) -> Result<bool, NoMemory>
 
 impl SameSlot<'_> {
     fn breaks(&self, alloc: Global, item: Item) -> Result<bool, NoMemory>
-        ensures { IfOk result (λ b. b ≡ any_table (any_pair slots_clash) self.now.abc.now item.kind item.index) }
+        ensures { IfOk result
+            (λ b. b ≡ any_table (any_pair slots_clash) self.now.abc.now item.kind item.index) }
     {
         let of_instances = is_slot_shared(alloc, instance_table(self.abc, item))?;
         let own = is_slot_shared(alloc, own_table(self.abc, item))?;

@@ -115,7 +115,9 @@ fn is_no_slot(body: TraitBody) -> bool
 impl TraitNotRun<'_> {
     /// Whether a trait of a table, which may be that of a body, is not run.
     fn any_not_run(&self, in_body: bool, table: &[TraitInfo]) -> bool
-        ensures { result ≡ list_any (λ t. is_not_run_in self.now.meanings.abc.now t.body || (in_body && is_other t.body)) table.now }
+        ensures { result
+            ≡ list_any (λ t. is_not_run_in self.now.meanings.abc.now t.body || (in_body && is_other t.body))
+            table.now }
     {
         for info in table {
             if is_not_run(&self.meanings, info.body) || in_body && is_no_slot(info.body) {

@@ -13,9 +13,9 @@ use Rattle.abc_base.specs.Faults.{HasCause, Rose}
 use Rattle.abc_base.specs.Sinks.{GrowsByFront, WritesAll}
 use Rattle.abc_base.specs.declared.source.Failed.{Failed}
 use Rattle.abc_base.proofs.Writing.{front_first, front_second, known_twice}
-use Rattle.abc_log.specs.Followed.{bytes_in, number_in}
-use Rattle.abc_log.specs.Lines.{hex_of, out_line}
-use Rattle.abc_log.specs.Outs.{HasMore, IsShown, end_of, has_some, open_line}
+use Rattle.abc_log.specs.Followed.{bytes_in, noted_number}
+use Rattle.abc_log.specs.Lines.{log_hex, out_line}
+use Rattle.abc_log.specs.Outs.{HasMore, AreBytesShown, end_of_line, has_some, open_line}
 use Rattle.abc_log.specs.OutlineViews.{ShownView}
 use Rattle.abc_log.proofs.Showing.{ended, rose_on, still_told}
 
@@ -35,19 +35,19 @@ told_front xs piece now g =
 
 module _ (before log now : Option (List ℕ)) (n faults last : ℕ) (bytes : List ℕ) where
   abbrev Ends : Bool → Result Unit Failed → Type 0
-  Ends failed r = (failed ≡ true → (r ≡ Err (record {})) × (now ≡ log)) × (failed ≡ false → WritesAll log now r (end_of (has_some bytes)))
+  Ends failed r = (failed ≡ true → (r ≡ Err (record {})) × (now ≡ log)) × (failed ≡ false → WritesAll log now r (end_of_line (has_some bytes)))
 
-  whole : (r : Result Unit Failed) → IsSome before → log ≡ append_known before (open_line bytes) → WritesAll log now r (end_of (has_some bytes)) → WritesAll before now r (out_line bytes)
-  whole (Ok u) some e w = λ here. w (still_told before log (open_line bytes) e some) ∙ ap (λ (o : Option (List ℕ)). append_known o (end_of (has_some bytes))) e ∙ known_twice before (open_line bytes) (end_of (has_some bytes)) ∙ ap (append_known before) (ended bytes)
+  whole : (r : Result Unit Failed) → IsSome before → log ≡ append_known before (open_line bytes) → WritesAll log now r (end_of_line (has_some bytes)) → WritesAll before now r (out_line bytes)
+  whole (Ok u) some e w = λ here. w (still_told before log (open_line bytes) e some) ∙ ap (λ (o : Option (List ℕ)). append_known o (end_of_line (has_some bytes))) e ∙ known_twice before (open_line bytes) (end_of_line (has_some bytes)) ∙ ap (append_known before) (ended bytes)
   whole (Err f) some e w = λ here.
-      let rest : GrowsByFront log now (end_of (has_some bytes)) = w (still_told before log (open_line bytes) e some) in
-      subst (GrowsByFront before now) (ended bytes) (front_second before now (open_line bytes) (end_of (has_some bytes)) (subst (λ (o : Option (List ℕ)). GrowsByFront o now (end_of (has_some bytes))) e rest))
+      let rest : GrowsByFront log now (end_of_line (has_some bytes)) = w (still_told before log (open_line bytes) e some) in
+      subst (GrowsByFront before now) (ended bytes) (front_second before now (open_line bytes) (end_of_line (has_some bytes)) (subst (λ (o : Option (List ℕ)). GrowsByFront o now (end_of_line (has_some bytes))) e rest))
 
   at_false : (r : Result Unit Failed) → HasMore before n (open_line bytes) log faults false → Ends false r → WritesAll before now r (out_line bytes)
   at_false r is ends = λ some. whole r some (is some) (ends.1 refl) some
 
   front_at : HasMore before n (open_line bytes) log faults true → now ≡ log → IsSome before → GrowsByFront before now (out_line bytes)
-  front_at is same some = subst (GrowsByFront before now) (ended bytes) (front_first before now (open_line bytes) (end_of (has_some bytes)) (subst (λ (o : Option (List ℕ)). GrowsByFront before o (open_line bytes)) (sym same) (is.0 some)))
+  front_at is same some = subst (GrowsByFront before now) (ended bytes) (front_first before now (open_line bytes) (end_of_line (has_some bytes)) (subst (λ (o : Option (List ℕ)). GrowsByFront before o (open_line bytes)) (sym same) (is.0 some)))
 
   at_true : (r : Result Unit Failed) → HasMore before n (open_line bytes) log faults true → Ends true r → WritesAll before now r (out_line bytes)
   at_true (Ok u) is ends = absurd (let other = (ends.0 refl).0 in cc)
@@ -59,15 +59,15 @@ module _ (before log now : Option (List ℕ)) (n faults last : ℕ) (bytes : Lis
 
 -- what is shown may be told only as a fact, and so may this
 pub record Closes (before log now : Option (List ℕ)) (n faults last : ℕ) (bytes : List ℕ) (some failed : Bool) (r : Result Unit Failed) : Type 0 where
-  pub shown : ∥ IsShown before n bytes log faults some failed ∥₁
+  pub shown : ∥ AreBytesShown before n bytes log faults some failed ∥₁
   pub stays : failed ≡ true → (r ≡ Err (record {})) × (now ≡ log)
-  pub ends : failed ≡ false → WritesAll log now r (end_of some)
+  pub ends : failed ≡ false → WritesAll log now r (end_of_line some)
   pub later : faults ≤ last
   pub cause : failed ≡ false → HasCause faults last r
 
-line_of : (before log now : Option (List ℕ)) (n faults last : ℕ) (bytes : List ℕ) (some failed : Bool) (r : Result Unit Failed) → Closes before log now n faults last bytes some failed r → IsShown before n bytes log faults some failed → WritesAll before now r (out_line bytes)
+line_of : (before log now : Option (List ℕ)) (n faults last : ℕ) (bytes : List ℕ) (some failed : Bool) (r : Result Unit Failed) → Closes before log now n faults last bytes some failed r → AreBytesShown before n bytes log faults some failed → WritesAll before now r (out_line bytes)
 line_of before log now n faults last bytes some failed r c s =
-    line before log now n faults last bytes failed r s.is (c.stays, λ well. subst (λ (b : Bool). WritesAll log now r (end_of b)) s.some_is (c.ends well))
+    line before log now n faults last bytes failed r s.is (c.stays, λ well. subst (λ (b : Bool). WritesAll log now r (end_of_line b)) s.some_is (c.ends well))
 
 pub line_ended : (before log now : Option (List ℕ)) (n faults last : ℕ) (bytes : List ℕ) (some failed : Bool) (r : Result Unit Failed) → Closes before log now n faults last bytes some failed r → WritesAll before now r (out_line bytes)
 line_ended None log now n faults last bytes some failed r c = λ here. absurd (cc)
@@ -79,7 +79,7 @@ line_ended (Some xs) log now n faults last bytes some failed (Err f) c = λ here
 }
 
 -- where the log failed before, the line isn't ended
-open_front : (before log now : Option (List ℕ)) (n faults last : ℕ) (bytes : List ℕ) (some failed : Bool) (r : Result Unit Failed) → Closes before log now n faults last bytes some failed r → failed ≡ true → IsShown before n bytes log faults some failed → IsSome before → GrowsByFront before now (open_line bytes)
+open_front : (before log now : Option (List ℕ)) (n faults last : ℕ) (bytes : List ℕ) (some failed : Bool) (r : Result Unit Failed) → Closes before log now n faults last bytes some failed r → failed ≡ true → AreBytesShown before n bytes log faults some failed → IsSome before → GrowsByFront before now (open_line bytes)
 open_front before log now n faults last bytes some failed r c bad s here =
     let more : HasMore before n (open_line bytes) log faults true = subst (HasMore before n (open_line bytes) log faults) bad s.is in
     subst (λ (o : Option (List ℕ)). GrowsByFront before o (open_line bytes)) (sym (c.stays bad).1) (more.0 here)
@@ -104,13 +104,13 @@ cause_ended before log now n faults last bytes some failed (Err f) c = record {
 
 -- what the code keeps of the line, and what its end answers
 module _ {L : Type 0} (written : L → Option (List ℕ)) (faults : L → ℕ) (start bytes : List ℕ) (old new : ShownView L) (last : L) (r : Result Unit Failed) where
-  pub closed : last ≡ new.log → ∥ IsShown (bytes_in start) (number_in start) bytes (written old.log) (faults old.log) old.some old.failed ∥₁ → (old.failed ≡ true → (r ≡ Err (record {})) × (new ≡ old))
-      → (old.failed ≡ false → WritesAll (written old.log) (written new.log) r (end_of old.some)) → faults old.log ≤ faults new.log → (old.failed ≡ false → HasCause (faults old.log) (faults new.log) r)
-      → Closes (bytes_in start) (written old.log) (written last) (number_in start) (faults old.log) (faults last) bytes old.some old.failed r
+  pub closed : last ≡ new.log → ∥ AreBytesShown (bytes_in start) (noted_number start) bytes (written old.log) (faults old.log) old.some old.failed ∥₁ → (old.failed ≡ true → (r ≡ Err (record {})) × (new ≡ old))
+      → (old.failed ≡ false → WritesAll (written old.log) (written new.log) r (end_of_line old.some)) → faults old.log ≤ faults new.log → (old.failed ≡ false → HasCause (faults old.log) (faults new.log) r)
+      → Closes (bytes_in start) (written old.log) (written last) (noted_number start) (faults old.log) (faults last) bytes old.some old.failed r
   closed is shown failed ends later cause = record {
     shown = shown;
     stays = λ bad. ((failed bad).0, ap written (is ∙ ap (λ (v : ShownView L). v.log) (failed bad).1));
-    ends = λ well. subst (λ (x : L). WritesAll (written old.log) (written x) r (end_of old.some)) (sym is) (ends well);
+    ends = λ well. subst (λ (x : L). WritesAll (written old.log) (written x) r (end_of_line old.some)) (sym is) (ends well);
     later = subst (λ (x : L). faults old.log ≤ faults x) (sym is) later;
     cause = λ well. subst (λ (x : L). HasCause (faults old.log) (faults x) r) (sym is) (cause well);
   }
@@ -124,14 +124,14 @@ failed_by false n quiet some = absurd (some (quiet refl))
 abbrev rest_of : (k : ℕ) → List ℕ → List ℕ
 rest_of zero bytes = out_line bytes
 rest_of (suc k) [] = []
-rest_of (suc k) (b ∷ bytes) = flat_map hex_of (drop k bytes) ++ 10 ∷ []
+rest_of (suc k) (b ∷ bytes) = flat_map log_hex (drop k bytes) ++ 10 ∷ []
 
 cut : (k : ℕ) (bytes : List ℕ) → open_line (take k bytes) ++ rest_of k bytes ≡ out_line bytes
 cut zero bytes = refl
 cut (suc k) [] = refl
 cut (suc k) (b ∷ bytes) =
-    let two : flat_map hex_of (take k bytes) ++ flat_map hex_of (drop k bytes) ≡ flat_map hex_of bytes = sym (flat_map-append hex_of (take k bytes) (drop k bytes)) ∙ ap (flat_map hex_of) (take-append-drop k bytes) in
-    ap (λ (l : List ℕ). codes "out " ++ (hex_of b ++ l)) (sym (append_assoc (flat_map hex_of (take k bytes)) (flat_map hex_of (drop k bytes)) (10 ∷ [])) ∙ ap (λ (l : List ℕ). l ++ 10 ∷ []) two)
+    let two : flat_map log_hex (take k bytes) ++ flat_map log_hex (drop k bytes) ≡ flat_map log_hex bytes = sym (flat_map-append log_hex (take k bytes) (drop k bytes)) ∙ ap (flat_map log_hex) (take-append-drop k bytes) in
+    ap (λ (l : List ℕ). codes "out " ++ (log_hex b ++ l)) (sym (append_assoc (flat_map log_hex (take k bytes)) (flat_map log_hex (drop k bytes)) (10 ∷ [])) ∙ ap (λ (l : List ℕ). l ++ 10 ∷ []) two)
 
 -- the front of a line that is cut off is one of the whole line
 pub cut_front : (before now : Option (List ℕ)) (k : ℕ) (bytes : List ℕ) → GrowsByFront before now (open_line (take k bytes)) → GrowsByFront before now (out_line bytes)

@@ -10,39 +10,39 @@ use Rattle.std.specs.Io.KnownBytes.{Consumes, IsAtEnd, prepend_known}
 use Rattle.std.specs.declared.option.Option.{Option}
 use Rattle.abc_base.specs.Faults.{Rose}
 use Rattle.abc_log.specs.Compared.{PartsFrom}
-use Rattle.abc_log.specs.Followed.{EndsApart, Follows, FollowsOn, bytes_in, coded, decoded, first_bytes, first_number, name_in, noted, number_in, parts_from, told}
+use Rattle.abc_log.specs.Followed.{EndsApart, FollowsLog, FollowsOn, bytes_in, option_code, option_of_code, first_bytes, first_number, noted_name, start_note, noted_number, parts_from, start_and_since}
 use Rattle.abc_log.specs.declared.compare.Verdict.{Verdict}
 use Rattle.abc_log.specs.declared.compare.Verdict.TheVariants.{Differs, ReadFault, Same}
 
 -- ---- what is told of a start
 
-pub told-append : (start bytes more : List ℕ) → told start bytes ++ more ≡ told start (bytes ++ more)
+pub told-append : (start bytes more : List ℕ) → start_and_since start bytes ++ more ≡ start_and_since start (bytes ++ more)
 told-append start bytes more = ap (λ (l : List ℕ). length start ∷ l) (append_assoc start bytes more)
 
-pub told_start : (s t a b : List ℕ) → told s a ≡ told t b → s ≡ t
+pub told_start : (s t a b : List ℕ) → start_and_since s a ≡ start_and_since t b → s ≡ t
 told_start s t a b e =
     let far : length s ≡ length t = cc in
     let whole : s ++ a ≡ t ++ b = cc in
     sym (take-append_seam s a) ∙ ap (take (length s)) whole ∙ ap (λ (n : ℕ). take n (t ++ b)) far ∙ take-append_seam t b
 
-pub told_bytes : (s t a b : List ℕ) → told s a ≡ told t b → a ≡ b
+pub told_bytes : (s t a b : List ℕ) → start_and_since s a ≡ start_and_since t b → a ≡ b
 told_bytes s t a b e =
     let far : length s ≡ length t = cc in
     let whole : s ++ a ≡ t ++ b = cc in
     sym (drop-append_seam s a) ∙ ap (drop (length s)) whole ∙ ap (λ (n : ℕ). drop n (t ++ b)) far ∙ drop-append_seam t b
 
-pub decoded_coded : (o : Option (List ℕ)) → decoded (coded o) ≡ o
+pub decoded_coded : (o : Option (List ℕ)) → option_of_code (option_code o) ≡ o
 decoded_coded None = refl
 decoded_coded (Some bytes) = refl
 
-pub name_noted : (name : List ℕ) (n : ℕ) (o : Option (List ℕ)) → name_in (noted name n o) ≡ name
-name_noted name n o = take-append_seam name (n ∷ coded o)
+pub name_noted : (name : List ℕ) (n : ℕ) (o : Option (List ℕ)) → noted_name (start_note name n o) ≡ name
+name_noted name n o = take-append_seam name (n ∷ option_code o)
 
-pub number_noted : (name : List ℕ) (n : ℕ) (o : Option (List ℕ)) → number_in (noted name n o) ≡ n
-number_noted name n o = ap first_number (drop-append_seam name (n ∷ coded o))
+pub number_noted : (name : List ℕ) (n : ℕ) (o : Option (List ℕ)) → noted_number (start_note name n o) ≡ n
+number_noted name n o = ap first_number (drop-append_seam name (n ∷ option_code o))
 
-pub bytes_noted : (name : List ℕ) (n : ℕ) (o : Option (List ℕ)) → bytes_in (noted name n o) ≡ o
-bytes_noted name n o = ap first_bytes (drop-append_seam name (n ∷ coded o)) ∙ decoded_coded o
+pub bytes_noted : (name : List ℕ) (n : ℕ) (o : Option (List ℕ)) → bytes_in (start_note name n o) ≡ o
+bytes_noted name n o = ap first_bytes (drop-append_seam name (n ∷ option_code o)) ∙ decoded_coded o
 
 -- ---- where bytes part
 
@@ -113,7 +113,7 @@ module _ (left now : Option (List ℕ)) (faults later agreed agreed_now same : �
       let one : length ((written ++ take same given) ++ w ∷ []) ≡ length (written ++ take same given) + 1 = length-append (written ++ take same given) (w ∷ []) in
       let rest : Option (List ℕ) = prepend_known (drop same given) now in
       let apart = ends_apart start rest (written ++ take same given) w (Consumes-trans start left rest written (take same given) f.is.0 (front_taken left now given same taken)) (goes_apart now given same w other ended) in
-      subst (λ (l : List ℕ). Follows start before l now later agreed_now (Differs agreed_now)) parts
+      subst (λ (l : List ℕ). FollowsLog start before l now later agreed_now (Differs agreed_now)) parts
       (record { later = omega (arith, low, f.later); is = (omega (arith, one), omega (arith, one, far, more, f.is.1), apart) })
 
 -- the source failed
@@ -122,17 +122,17 @@ fails_on left now faults later agreed agreed_now bytes low rose = λ start befor
 
 -- what goes on is put behind what is told of the start
 pub follows_on : (start bytes new_start new_bytes more : List ℕ) (left now : Option (List ℕ)) (faults later agreed agreed_now : ℕ) (old new : Verdict) → new_start ≡ start → new_bytes ≡ bytes ++ more → old ≡ Same
-    → ∥ Follows (bytes_in start) (number_in start) bytes left faults agreed old ∥₁ → FollowsOn left faults agreed more now later agreed_now new → ∥ Follows (bytes_in new_start) (number_in new_start) new_bytes now later agreed_now new ∥₁
+    → ∥ FollowsLog (bytes_in start) (noted_number start) bytes left faults agreed old ∥₁ → FollowsOn left faults agreed more now later agreed_now new → ∥ FollowsLog (bytes_in new_start) (noted_number new_start) new_bytes now later agreed_now new ∥₁
 follows_on start bytes new_start new_bytes more left now faults later agreed agreed_now old new at longer same follows on =
     ∥∥₁_map follows (λ f.
-    let before : Follows (bytes_in start) (number_in start) bytes left faults agreed Same = subst (λ (v : Verdict). Follows (bytes_in start) (number_in start) bytes left faults agreed v) same f in
-    subst (λ (s : List ℕ). Follows (bytes_in s) (number_in s) new_bytes now later agreed_now new) (sym at)
-    (subst (λ (b : List ℕ). Follows (bytes_in start) (number_in start) b now later agreed_now new) (sym longer) (on (bytes_in start) (number_in start) bytes before)))
+    let before : FollowsLog (bytes_in start) (noted_number start) bytes left faults agreed Same = subst (λ (v : Verdict). FollowsLog (bytes_in start) (noted_number start) bytes left faults agreed v) same f in
+    subst (λ (s : List ℕ). FollowsLog (bytes_in s) (noted_number s) new_bytes now later agreed_now new) (sym at)
+    (subst (λ (b : List ℕ). FollowsLog (bytes_in start) (noted_number start) b now later agreed_now new) (sym longer) (on (bytes_in start) (noted_number start) bytes before)))
 
 -- nothing is written yet
-pub begun : (start name : List ℕ) (n : ℕ) (o : Option (List ℕ)) → start ≡ noted name n o → ∥ Follows (bytes_in start) (number_in start) [] o n 0 Same ∥₁
+pub begun : (start name : List ℕ) (n : ℕ) (o : Option (List ℕ)) → start ≡ start_note name n o → ∥ FollowsLog (bytes_in start) (noted_number start) [] o n 0 Same ∥₁
 begun start name n o e =
     let bytes : bytes_in start ≡ o = ap bytes_in e ∙ bytes_noted name n o in
-    let number : number_in start ≡ n = ap number_in e ∙ number_noted name n o in
-    let none : Follows o n [] o n 0 Same = record { later = omega arith; is = (Consumes-nil o, omega arith) } in
-    ∣ subst (λ (x : Option (List ℕ)). Follows x (number_in start) [] o n 0 Same) (sym bytes) (subst (λ (k : ℕ). Follows o k [] o n 0 Same) (sym number) none) ∣₁
+    let number : noted_number start ≡ n = ap noted_number e ∙ number_noted name n o in
+    let none : FollowsLog o n [] o n 0 Same = record { later = omega arith; is = (Consumes-nil o, omega arith) } in
+    ∣ subst (λ (x : Option (List ℕ)). FollowsLog x (noted_number start) [] o n 0 Same) (sym bytes) (subst (λ (k : ℕ). FollowsLog o k [] o n 0 Same) (sym number) none) ∣₁

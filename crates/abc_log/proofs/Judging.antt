@@ -11,7 +11,7 @@ use mathlib.Core.HLevel.{hedberg}
 use mathlib.Core.List.{is_set}
 use native.Mathlib.Decide.{ℕ_discrete}
 use Rattle.abc_base.specs.Faults.{Rose}
-use Rattle.abc_log.specs.Followed.{EndsApart, Follows, bytes_in, name_in, noted, number_in, parts_from, told}
+use Rattle.abc_log.specs.Followed.{EndsApart, FollowsLog, bytes_in, noted_name, start_note, noted_number, parts_from, start_and_since}
 use Rattle.abc_log.specs.declared.compare.Verdict.{Verdict}
 use Rattle.abc_log.specs.declared.compare.Verdict.TheVariants.{Differs, ReadFault, Same}
 use Rattle.abc_log.proofs.Following.{bytes_noted, name_noted, number_noted, told-append, told_bytes, told_start}
@@ -55,7 +55,7 @@ parted lines bytes far k (Some found) is some at apart =
     at_place lines k (length bytes - 1) found (sym (ap (parts_from 0 found) all) ∙ parts_longer 0 (length bytes - 1) found bytes (drop far lines) apart (omega (arith, some))) at
 
 from_follows : (lines bytes : List ℕ) (steps n : ℕ) (start : Option (List ℕ)) (before : ℕ) (left : Option (List ℕ)) (faults agreed : ℕ) (v : Verdict) (far : ℕ) → bytes ≡ take far lines → (v ≡ Same → (bytes ≡ lines) × (n ≡ steps))
-    → Follows start before bytes left faults agreed v → IsCompared lines steps n start before left faults agreed v
+    → FollowsLog start before bytes left faults agreed v → IsCompared lines steps n start before left faults agreed v
 from_follows lines bytes steps n start before left faults agreed Same far is all f =
     let w = all refl in
     record { later = f.later; is = (subst (Consumes start left) w.0 f.is.0, f.is.1 ∙ ap (λ (l : List ℕ). min (length l) (2 ^ 64 - 1)) w.0, w.1) }
@@ -74,39 +74,39 @@ record IsTold (lines start start2 bytes2 : List ℕ) (steps n fb fn : ℕ) : Typ
 told_all : (lines : List ℕ) → lines ≡ take (length lines) lines
 told_all lines = sym (take_all (length lines) lines (omega arith))
 
-is_told : (lines start start2 bytes2 : List ℕ) (steps n fb fn : ℕ) → IsWritten lines steps n (Some (told start [])) (Some (told start2 bytes2)) fb fn → IsTold lines start start2 bytes2 steps n fb fn
+is_told : (lines start start2 bytes2 : List ℕ) (steps n fb fn : ℕ) → IsWritten lines steps n (Some (start_and_since start [])) (Some (start_and_since start2 bytes2)) fb fn → IsTold lines start start2 bytes2 steps n fb fn
 is_told lines start start2 bytes2 steps n fb fn (whole counted new) =
-    let grown : Some (told start2 bytes2) ≡ Some (told start lines) = new (search rules) ∙ ap Some (told-append start [] lines) in
-    let e : told start2 bytes2 ≡ told start lines = cc in
+    let grown : Some (start_and_since start2 bytes2) ≡ Some (start_and_since start lines) = new (search rules) ∙ ap Some (told-append start [] lines) in
+    let e : start_and_since start2 bytes2 ≡ start_and_since start lines = cc in
     let same : start2 ≡ start = told_start start2 start bytes2 lines e in
     let bytes : bytes2 ≡ lines = told_bytes start2 start bytes2 lines e in
     record { same = same; far = length lines; is = bytes ∙ told_all lines; all = λ _. (bytes, counted) }
 is_told lines start start2 bytes2 steps n fb fn (front rose new) =
     let grows = new (search rules) in
-    let grown : Some (told start2 bytes2) ≡ Some (told start (take grows.count lines)) = grows.front ∙ ap Some (told-append start [] (take grows.count lines)) in
-    let e : told start2 bytes2 ≡ told start (take grows.count lines) = cc in
+    let grown : Some (start_and_since start2 bytes2) ≡ Some (start_and_since start (take grows.count lines)) = grows.front ∙ ap Some (told-append start [] (take grows.count lines)) in
+    let e : start_and_since start2 bytes2 ≡ start_and_since start (take grows.count lines) = cc in
     record { same = told_start start2 start bytes2 (take grows.count lines) e; far = grows.count; is = told_bytes start2 start bytes2 (take grows.count lines) e; all = λ none. absurd (none rose) }
 
 -- what is lent has the name that it had
-pub same_name : (start start2 name now : List ℕ) (lent back number : ℕ) (o : Option (List ℕ)) → start ≡ noted (lent ∷ name) number o → start2 ≡ start → back ∷ now ≡ name_in start2 → back ≡ lent
+pub same_name : (start start2 name now : List ℕ) (lent back number : ℕ) (o : Option (List ℕ)) → start ≡ start_note (lent ∷ name) number o → start2 ≡ start → back ∷ now ≡ noted_name start2 → back ≡ lent
 same_name start start2 name now lent back number o at same named =
-    let is : name_in start2 ≡ lent ∷ name = ap name_in (same ∙ at) ∙ name_noted (lent ∷ name) number o in
+    let is : noted_name start2 ≡ lent ∷ name = ap noted_name (same ∙ at) ∙ name_noted (lent ∷ name) number o in
     let both : back ∷ now ≡ lent ∷ name = named ∙ is in
     cc
 
 -- what is told at the start stays
-pub same_start : (lines start start2 bytes2 : List ℕ) (steps n fb fn : ℕ) → IsWritten lines steps n (Some (told start [])) (Some (told start2 bytes2)) fb fn → start2 ≡ start
+pub same_start : (lines start start2 bytes2 : List ℕ) (steps n fb fn : ℕ) → IsWritten lines steps n (Some (start_and_since start [])) (Some (start_and_since start2 bytes2)) fb fn → start2 ≡ start
 same_start lines start start2 bytes2 steps n fb fn written = (is_told lines start start2 bytes2 steps n fb fn written).same
 
-pub is_compared : (lines start start2 bytes2 name : List ℕ) (steps n number : ℕ) (o left : Option (List ℕ)) (faults agreed : ℕ) (v : Verdict) (fb fn : ℕ) → start ≡ noted name number o
-    → IsWritten lines steps n (Some (told start [])) (Some (told start2 bytes2)) fb fn → (v ≡ Same → fn ≡ 0) → ∥ Follows (bytes_in start2) (number_in start2) bytes2 left faults agreed v ∥₁ → IsCompared lines steps n o number left faults agreed v
+pub is_compared : (lines start start2 bytes2 name : List ℕ) (steps n number : ℕ) (o left : Option (List ℕ)) (faults agreed : ℕ) (v : Verdict) (fb fn : ℕ) → start ≡ start_note name number o
+    → IsWritten lines steps n (Some (start_and_since start [])) (Some (start_and_since start2 bytes2)) fb fn → (v ≡ Same → fn ≡ 0) → ∥ FollowsLog (bytes_in start2) (noted_number start2) bytes2 left faults agreed v ∥₁ → IsCompared lines steps n o number left faults agreed v
 is_compared lines start start2 bytes2 name steps n number o left faults agreed v fb fn at written quiet follows =
     let t = is_told lines start start2 bytes2 steps n fb fn written in
     let bytes : bytes_in start2 ≡ o = ap bytes_in (t.same ∙ at) ∙ bytes_noted name number o in
-    let count : number_in start2 ≡ number = ap number_in (t.same ∙ at) ∙ number_noted name number o in
+    let count : noted_number start2 ≡ number = ap noted_number (t.same ∙ at) ∙ number_noted name number o in
     ∥∥₁_elim follows (one_compared lines steps n o number left faults agreed v) (λ f.
     from_follows lines bytes2 steps n o number left faults agreed v t.far t.is (λ same. t.all (λ rose. omega (arith, rose, quiet same)))
-    (subst (λ (x : Option (List ℕ)). Follows x number bytes2 left faults agreed v) bytes (subst (λ (k : ℕ). Follows (bytes_in start2) k bytes2 left faults agreed v) count f)))
+    (subst (λ (x : Option (List ℕ)). FollowsLog x number bytes2 left faults agreed v) bytes (subst (λ (k : ℕ). FollowsLog (bytes_in start2) k bytes2 left faults agreed v) count f)))
 
 -- ---- to what is answered
 

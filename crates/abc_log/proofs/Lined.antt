@@ -9,23 +9,23 @@ use Rattle.std.proofs.lemmas.Bool.{and_from, and_parts, both_ways, leb-true, ne_
 use Rattle.std.proofs.lemmas.Fmt.{length-decimal-le}
 use Rattle.std.proofs.lemmas.List.Folds.{list_all-append}
 use Rattle.abc_heap_store.specs.declared.records.Limits.{Limits}
-use Rattle.abc_log.specs.Lines.{AreLimits, limits_line, limits_text, next_number, numbers_of}
+use Rattle.abc_log.specs.Lines.{AreLimits, limits_line, limits_text, next_number, limit_numbers}
 use Rattle.abc_log.specs.Bytes.{GivesNext}
-use Rattle.abc_log.specs.Limits.{HasNoLimits, HasNoLine, is_digit, is_no_feed}
+use Rattle.abc_log.specs.Limits.{HasNoLimits, HasNoLine, is_limit_digit, is_no_feed}
 use Rattle.abc_log.proofs.Fronts.{one_front}
 use Rattle.abc_log.proofs.Spelling.{all_digits, one_list}
 
 -- ---- the text of limits
 
-no_feed_digit : (b : ℕ) → is_digit b ≡ true → is_no_feed b ≡ true
+no_feed_digit : (b : ℕ) → is_limit_digit b ≡ true → is_no_feed b ≡ true
 no_feed_digit b e =
     let low : 48 ≤ b = leb-true 48 b (and_parts (nat_le 48 b) (nat_le b 57) e).0 in
     ap not (ne_eqb b 10 (λ same. omega (arith, same)))
 
-no_feeds : (ds : List ℕ) → list_all is_digit ds ≡ true → list_all is_no_feed ds ≡ true
+no_feeds : (ds : List ℕ) → list_all is_limit_digit ds ≡ true → list_all is_no_feed ds ≡ true
 no_feeds [] all = refl
 no_feeds (d ∷ ds) all =
-    let both = and_parts (is_digit d) (list_all is_digit ds) all in
+    let both = and_parts (is_limit_digit d) (list_all is_limit_digit ds) all in
     and_from (is_no_feed d) (list_all is_no_feed ds) (no_feed_digit d both.0) (no_feeds ds both.1)
 
 no_feed_next : (n : ℕ) → n < 2 ^ 64 → list_all is_no_feed (next_number n) ≡ true
@@ -37,7 +37,7 @@ next_and n more small all = list_all-append is_no_feed (next_number n) more ∙ 
 pub limits_feedless : (fuel : ℕ) (m : Limits) → AreLimits fuel m → list_all is_no_feed (limits_text fuel m) ≡ true
 unfolding limits_text
 limits_feedless fuel m a =
-    list_all-append is_no_feed (codes "limits") (flat_map next_number (numbers_of fuel m))
+    list_all-append is_no_feed (codes "limits") (flat_map next_number (limit_numbers fuel m))
     ∙ next_and fuel _ (omega (arith, a.steps)) (next_and m.objects _ (omega (arith, a.objects)) (next_and m.cells _ (omega (arith, a.cells)) (next_and m.text _ (omega (arith, a.text)) (next_and m.frames _ (omega (arith, a.frames)) (next_and m.stack [] (omega (arith, a.stack)) refl)))))
 
 few_digits : (n : ℕ) → n ≤ 2 ^ 24 → length (decimal n) ≤ 8
@@ -56,9 +56,9 @@ add_up all a b c d e f whole one two three four five six = omega arith
 pub limits_few : (fuel : ℕ) (m : Limits) → AreLimits fuel m → length (limits_text fuel m) < 64
 unfolding limits_text
 limits_few fuel m a =
-    add_up (length (limits_text fuel m)) (length (flat_map next_number (numbers_of fuel m))) (length (flat_map next_number (m.objects ∷ m.cells ∷ m.text ∷ m.frames ∷ m.stack ∷ []))) (length (flat_map next_number (m.cells ∷ m.text ∷ m.frames ∷ m.stack ∷ [])))
+    add_up (length (limits_text fuel m)) (length (flat_map next_number (limit_numbers fuel m))) (length (flat_map next_number (m.objects ∷ m.cells ∷ m.text ∷ m.frames ∷ m.stack ∷ []))) (length (flat_map next_number (m.cells ∷ m.text ∷ m.frames ∷ m.stack ∷ [])))
     (length (flat_map next_number (m.text ∷ m.frames ∷ m.stack ∷ []))) (length (flat_map next_number (m.frames ∷ m.stack ∷ []))) (length (flat_map next_number (m.stack ∷ [])))
-    (length-append (codes "limits") (flat_map next_number (numbers_of fuel m)))
+    (length-append (codes "limits") (flat_map next_number (limit_numbers fuel m)))
     (length_next fuel 10 (m.objects ∷ m.cells ∷ m.text ∷ m.frames ∷ m.stack ∷ []) (length-decimal-le 10 fuel (omega arith) (omega (arith, a.steps)) (omega (arith, a.steps))))
     (length_next m.objects 8 (m.cells ∷ m.text ∷ m.frames ∷ m.stack ∷ []) (few_digits m.objects a.objects))
     (length_next m.cells 8 (m.text ∷ m.frames ∷ m.stack ∷ []) (few_digits m.cells a.cells))
@@ -66,7 +66,7 @@ limits_few fuel m a =
     (length_next m.frames 8 (m.stack ∷ []) (few_digits m.frames a.frames))
     (length_next m.stack 8 [] (few_digits m.stack a.stack))
 
-small_numbers : (fuel : ℕ) (m : Limits) → AreLimits fuel m → (k : ℕ) → k < 6 → get_or (numbers_of fuel m) k 0 < 2 ^ 32
+small_numbers : (fuel : ℕ) (m : Limits) → AreLimits fuel m → (k : ℕ) → k < 6 → get_or (limit_numbers fuel m) k 0 < 2 ^ 32
 small_numbers fuel m a zero lt = a.steps
 small_numbers fuel m a (suc zero) lt = omega (arith, a.objects)
 small_numbers fuel m a (suc (suc zero)) lt = omega (arith, a.cells)
@@ -79,7 +79,7 @@ abbrev pub limits_at : List ℕ → Limits
 limits_at ns = record { objects = get_or ns 1 0; cells = get_or ns 2 0; text = get_or ns 3 0; frames = get_or ns 4 0; stack = get_or ns 5 0 }
 
 -- six numbers are a fuel and limits
-pub six_numbers : (ns : List ℕ) → length ns ≡ 6 → ns ≡ numbers_of (get_or ns 0 0) (limits_at ns)
+pub six_numbers : (ns : List ℕ) → length ns ≡ 6 → ns ≡ limit_numbers (get_or ns 0 0) (limits_at ns)
 six_numbers [] e = absurd (omega (arith, e))
 six_numbers (a ∷ []) e = absurd (omega (arith, e))
 six_numbers (a ∷ b ∷ []) e = absurd (omega (arith, e))
@@ -94,26 +94,26 @@ unfolding limits_text
 text_of line rest ns is all long = is ∙ ap (λ (l : List ℕ). codes "limits" ++ l) (all ∙ ap (flat_map next_number) (six_numbers ns long))
 
 -- a text of limits is the word, and their numbers behind it
-numbers_behind : (line rest : List ℕ) (fuel : ℕ) (m : Limits) → line ≡ codes "limits" ++ rest → line ≡ limits_text fuel m → rest ≡ flat_map next_number (numbers_of fuel m)
+numbers_behind : (line rest : List ℕ) (fuel : ℕ) (m : Limits) → line ≡ codes "limits" ++ rest → line ≡ limits_text fuel m → rest ≡ flat_map next_number (limit_numbers fuel m)
 unfolding limits_text
 numbers_behind line rest fuel m is e = ap (drop 6) (sym is ∙ e)
 
 pub no_word : (line : List ℕ) → ((rest : List ℕ) → line ≢ codes "limits" ++ rest) → (fuel : ℕ) (m : Limits) → AreLimits fuel m → line ≢ limits_text fuel m
 unfolding limits_text
-no_word line none fuel m a e = none (flat_map next_number (numbers_of fuel m)) e
+no_word line none fuel m a e = none (flat_map next_number (limit_numbers fuel m)) e
 
 pub no_numbers : (line rest : List ℕ) → line ≡ codes "limits" ++ rest → ((ns : List ℕ) → length ns ≡ 6 → EachIndex ns (λ k. get_or ns k 0 < 2 ^ 32) → rest ≢ flat_map next_number ns) → (fuel : ℕ) (m : Limits) → AreLimits fuel m → line ≢ limits_text fuel m
-no_numbers line rest is none fuel m a e = none (numbers_of fuel m) refl (small_numbers fuel m a) (numbers_behind line rest fuel m is e)
+no_numbers line rest is none fuel m a e = none (limit_numbers fuel m) refl (small_numbers fuel m a) (numbers_behind line rest fuel m is e)
 
 -- with these numbers there are no other limits
-pub these_limits : (line rest ns : List ℕ) → line ≡ codes "limits" ++ rest → rest ≡ flat_map next_number ns → length ns ≡ 6 → EachIndex ns (λ k. get_or ns k 0 < 2 ^ 32) → (fuel : ℕ) (m : Limits) → AreLimits fuel m → line ≡ limits_text fuel m → ns ≡ numbers_of fuel m
-these_limits line rest ns is all long small fuel m a e = one_list ns (numbers_of fuel m) small (small_numbers fuel m a) long (sym all ∙ numbers_behind line rest fuel m is e)
+pub these_limits : (line rest ns : List ℕ) → line ≡ codes "limits" ++ rest → rest ≡ flat_map next_number ns → length ns ≡ 6 → EachIndex ns (λ k. get_or ns k 0 < 2 ^ 32) → (fuel : ℕ) (m : Limits) → AreLimits fuel m → line ≡ limits_text fuel m → ns ≡ limit_numbers fuel m
+these_limits line rest ns is all long small fuel m a e = one_list ns (limit_numbers fuel m) small (small_numbers fuel m a) long (sym all ∙ numbers_behind line rest fuel m is e)
 
 pub too_great : (line rest ns : List ℕ) → line ≡ codes "limits" ++ rest → rest ≡ flat_map next_number ns → length ns ≡ 6 → EachIndex ns (λ k. get_or ns k 0 < 2 ^ 32)
     → ((get_or ns 1 0 ≤ 2 ^ 24) × (get_or ns 2 0 ≤ 2 ^ 24) × (get_or ns 3 0 ≤ 2 ^ 24) × (get_or ns 4 0 ≤ 2 ^ 24) × (get_or ns 5 0 ≤ 2 ^ 24) → ⊥) → (fuel : ℕ) (m : Limits) → AreLimits fuel m → line ≢ limits_text fuel m
 too_great line rest ns is all long small great fuel m a e =
     let these = these_limits line rest ns is all long small fuel m a e in
-    let at : (k : ℕ) → get_or ns k 0 ≡ get_or (numbers_of fuel m) k 0 = λ k. ap (λ (l : List ℕ). get_or l k 0) these in
+    let at : (k : ℕ) → get_or ns k 0 ≡ get_or (limit_numbers fuel m) k 0 = λ k. ap (λ (l : List ℕ). get_or l k 0) these in
     great (omega (arith, at 1, a.objects), omega (arith, at 2, a.cells), omega (arith, at 3, a.text), omega (arith, at 4, a.frames), omega (arith, at 5, a.stack))
 
 -- ---- lines

@@ -10,7 +10,7 @@ use Rattle.std.specs.declared.option.Option.{Option}
 use Rattle.abc_base.specs.Escapes.{hex_digit}
 use Rattle.abc_log.specs.Lines.{head_line, hex_digits}
 use Rattle.abc_log.specs.Bytes.{GivesNext}
-use Rattle.abc_log.specs.Heads.{AllStand, IsHeadStop, is_hex, may_stand}
+use Rattle.abc_log.specs.Heads.{AllStand, IsHeadStop, is_lower_hex, may_stand}
 use Rattle.abc_log.specs.declared.errors.HeadError.{HeadError}
 use Rattle.abc_log.specs.declared.errors.HeadError.TheVariants.{ReadFault, Wrong}
 
@@ -18,10 +18,10 @@ use Rattle.abc_log.specs.declared.errors.HeadError.TheVariants.{ReadFault, Wrong
 
 pub digit_stands : (place d : ℕ) → place < 8 → d < 16 → may_stand place (hex_digit d) ≡ true
 digit_stands place d early small =
-    ap (λ (t : Bool). if t then is_hex (hex_digit d) else nat_eq (hex_digit d) 10) (lt-ltb place 8 early) ∙ agree_below_at (λ (n : ℕ). is_hex (hex_digit n)) (λ (_ : ℕ). true) 16 d refl small
+    ap (λ (t : Bool). if t then is_lower_hex (hex_digit d) else nat_eq (hex_digit d) 10) (lt-ltb place 8 early) ∙ agree_below_at (λ (n : ℕ). is_lower_hex (hex_digit n)) (λ (_ : ℕ). true) 16 d refl small
 
-pub other_stands_not : (place b : ℕ) → place < 8 → is_hex b ≡ false → may_stand place b ≡ false
-other_stands_not place b early e = ap (λ (t : Bool). if t then is_hex b else nat_eq b 10) (lt-ltb place 8 early) ∙ e
+pub other_stands_not : (place b : ℕ) → place < 8 → is_lower_hex b ≡ false → may_stand place b ≡ false
+other_stands_not place b early e = ap (λ (t : Bool). if t then is_lower_hex b else nat_eq b 10) (lt-ltb place 8 early) ∙ e
 
 pub length-hex_digits : (k n : ℕ) → length (hex_digits k n) ≡ k
 unfolding hex_digits
@@ -75,7 +75,7 @@ high_digit b low high =
     let is : b ≡ 87 + (b - 97 + 10) = omega arith in
     is ∙ sym (ap (λ (t : Bool). if t then 48 + (b - 97 + 10) else 87 + (b - 97 + 10)) (le-ltb (b - 97 + 10) 10 many))
 
-pub no_digit : (b : ℕ) → (48 ≤ b → b ≤ 57 → ⊥) → (97 ≤ b → b ≤ 102 → ⊥) → is_hex b ≡ false
+pub no_digit : (b : ℕ) → (48 ≤ b → b ≤ 57 → ⊥) → (97 ≤ b → b ≤ 102 → ⊥) → is_lower_hex b ≡ false
 no_digit b low high =
     or_from (nat_le 48 b && nat_le b 57) (nat_le 97 b && nat_le b 102)
     (false_from_ne_true (nat_le 48 b && nat_le b 57) (λ e. let p = and_parts (nat_le 48 b) (nat_le b 57) e in low (leb-true 48 b p.0) (leb-true b 57 p.1)))

@@ -36,7 +36,7 @@ IsTooMuch left agreed (faults.Differs n) = (n ≡ agreed) × IfSome left (λ res
 IsTooMuch left agreed faults.ReadFault = Unit {0}
 
 -- what the verdict says, or that something follows
-abbrev pub IsFaultOf : Verdict → (left : Option (List ℕ)) → (agreed : ℕ) → LogFault → Type 0
-IsFaultOf Same left agreed e = IsTooMuch left agreed e
-IsFaultOf (Differs k) left agreed e = e ≡ faults.Differs k
-IsFaultOf ReadFault left agreed e = e ≡ faults.ReadFault
+abbrev pub IsLogFault : Verdict → (left : Option (List ℕ)) → (agreed : ℕ) → LogFault → Type 0
+IsLogFault Same left agreed e = IsTooMuch left agreed e
+IsLogFault (Differs k) left agreed e = e ≡ faults.Differs k
+IsLogFault ReadFault left agreed e = e ≡ faults.ReadFault

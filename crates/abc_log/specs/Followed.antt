@@ -7,26 +7,26 @@ use Rattle.abc_log.specs.declared.compare.Verdict.{Verdict}
 use Rattle.abc_log.specs.declared.compare.Verdict.TheVariants.{Differs, ReadFault, Same}
 
 -- what there was at the start, as a list that tells it, with the bytes since behind it
-abbrev pub told : (start bytes : List ℕ) → List ℕ
-told start bytes = length start ∷ (start ++ bytes)
+abbrev pub start_and_since : (start bytes : List ℕ) → List ℕ
+start_and_since start bytes = length start ∷ (start ++ bytes)
 
 -- bytes, where they are told, as a list that tells which
-abbrev pub coded : Option (List ℕ) → List ℕ
-coded None = []
-coded (Some bytes) = 0 ∷ bytes
+abbrev pub option_code : Option (List ℕ) → List ℕ
+option_code None = []
+option_code (Some bytes) = 0 ∷ bytes
 
-abbrev pub decoded : List ℕ → Option (List ℕ)
-decoded [] = None
-decoded (n ∷ bytes) = Some bytes
+abbrev pub option_of_code : List ℕ → Option (List ℕ)
+option_of_code [] = None
+option_of_code (n ∷ bytes) = Some bytes
 
 -- a list, a number, and bytes where they are told
-abbrev pub noted : (name : List ℕ) → ℕ → Option (List ℕ) → List ℕ
-noted name n bytes = length name ∷ (name ++ n ∷ coded bytes)
+abbrev pub start_note : (name : List ℕ) → ℕ → Option (List ℕ) → List ℕ
+start_note name n bytes = length name ∷ (name ++ n ∷ option_code bytes)
 
--- the list in what `noted` makes of a list, a number and bytes
-abbrev pub name_in : List ℕ → List ℕ
-name_in [] = []
-name_in (k ∷ rest) = take k rest
+-- the list in what `start_note` makes of a list, a number and bytes
+abbrev pub noted_name : List ℕ → List ℕ
+noted_name [] = []
+noted_name (k ∷ rest) = take k rest
 
 abbrev pub behind_name : List ℕ → List ℕ
 behind_name [] = []
@@ -38,11 +38,11 @@ first_number (n ∷ code) = n
 
 abbrev pub first_bytes : List ℕ → Option (List ℕ)
 first_bytes [] = None
-first_bytes (n ∷ code) = decoded code
+first_bytes (n ∷ code) = option_of_code code
 
 -- the number in it
-abbrev pub number_in : List ℕ → ℕ
-number_in start = first_number (behind_name start)
+abbrev pub noted_number : List ℕ → ℕ
+noted_number start = first_number (behind_name start)
 
 -- the bytes in it, where they are known
 abbrev pub bytes_in : List ℕ → Option (List ℕ)
@@ -65,11 +65,11 @@ FollowsAs start before bytes left faults agreed (Differs n) = (0 < length bytes)
 FollowsAs start before bytes left faults agreed ReadFault = Rose before faults
 
 -- what the verdict says of these bytes, of what is left and of the failures
-pub record Follows (start : Option (List ℕ)) (before : ℕ) (bytes : List ℕ) (left : Option (List ℕ)) (faults agreed : ℕ) (verdict : Verdict) : Type 0 where
+pub record FollowsLog (start : Option (List ℕ)) (before : ℕ) (bytes : List ℕ) (left : Option (List ℕ)) (faults agreed : ℕ) (verdict : Verdict) : Type 0 where
   pub later : before ≤ faults
   pub is : FollowsAs start before bytes left faults agreed verdict
 
 -- these bytes go on from others that all agreed: so much is left now, with so many failures and so many that agreed, and this verdict
 abbrev pub FollowsOn : (left : Option (List ℕ)) → (faults agreed : ℕ) → List ℕ → (left_now : Option (List ℕ)) → (faults_now agreed_now : ℕ) → Verdict → Type 0
 FollowsOn left faults agreed bytes left_now faults_now agreed_now verdict =
-    (start : Option (List ℕ)) (before : ℕ) (written : List ℕ) → Follows start before written left faults agreed Same → Follows start before (written ++ bytes) left_now faults_now agreed_now verdict
+    (start : Option (List ℕ)) (before : ℕ) (written : List ℕ) → FollowsLog start before written left faults agreed Same → FollowsLog start before (written ++ bytes) left_now faults_now agreed_now verdict

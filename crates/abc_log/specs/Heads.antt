@@ -5,12 +5,12 @@ use Rattle.abc_log.specs.declared.errors.HeadError.{HeadError}
 use Rattle.abc_log.specs.declared.errors.HeadError.TheVariants as errors
 
 -- `0` to `9` and `a` to `f`
-abbrev pub is_hex : ℕ → Bool
-is_hex byte = (nat_le 48 byte && nat_le byte 57) || (nat_le 97 byte && nat_le byte 102)
+abbrev pub is_lower_hex : ℕ → Bool
+is_lower_hex byte = (nat_le 48 byte && nat_le byte 57) || (nat_le 97 byte && nat_le byte 102)
 
 -- whether a byte may stand at this place of the line: eight digits, and then the line feed
 abbrev pub may_stand : (place byte : ℕ) → Bool
-may_stand place byte = if nat_lt place 8 then is_hex byte else nat_eq byte 10
+may_stand place byte = if nat_lt place 8 then is_lower_hex byte else nat_eq byte 10
 
 -- each of the bytes may stand where it does, from this place on
 abbrev pub AllStand : (place : ℕ) → List ℕ → Type 0

@@ -17,9 +17,9 @@ abbrev pub inner_agreed : {S : Type 0} {G : Ghosts S} → Lenient S G → ℕ
 inner_agreed l = l.compare.agreed
 
 -- what the source had left when nothing was written, and how many of its reads had failed
-abbrev pub start_of : {S : Type 0} {G : Ghosts S} → Lenient S G → List ℕ
-start_of l = l.history.start
+abbrev pub start_of_compare : {S : Type 0} {G : Ghosts S} → Lenient S G → List ℕ
+start_of_compare l = l.history.start
 
 -- what was written since
-abbrev pub bytes_of : {S : Type 0} {G : Ghosts S} → Lenient S G → List ℕ
-bytes_of l = l.history.bytes
+abbrev pub bytes_since : {S : Type 0} {G : Ghosts S} → Lenient S G → List ℕ
+bytes_since l = l.history.bytes

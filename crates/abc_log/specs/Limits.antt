@@ -5,8 +5,8 @@ use Rattle.abc_heap_store.specs.declared.records.Limits.{Limits}
 use Rattle.abc_log.specs.Lines.{AreLimits, limits_line}
 
 -- `0` to `9`
-abbrev pub is_digit : ℕ → Bool
-is_digit byte = nat_le 48 byte && nat_le byte 57
+abbrev pub is_limit_digit : ℕ → Bool
+is_limit_digit byte = nat_le 48 byte && nat_le byte 57
 
 -- any byte but a line feed
 abbrev pub is_no_feed : ℕ → Bool

@@ -1,7 +1,7 @@
 -- The lines of a step log (profile: docs/PROGRAM.md, "Logs").
 use Rattle.std.specs.Prelude.{ℕ, zero, suc, ◌/◌, ◌%◌, ◌^◌, ◌<◌, ◌≤◌, List, [], ◌∷◌, ◌++◌, codes, decimal}
 use Rattle.std.specs.List.{flat_map}
-use Rattle.abc_base.specs.Escapes.{escaped, hex_digit}
+use Rattle.abc_base.specs.Escapes.{with_escapes, hex_digit}
 use Rattle.abc_heap_store.specs.declared.records.Limit.{Limit}
 use Rattle.abc_heap_store.specs.declared.records.Limit.TheVariants as limits
 use Rattle.abc_heap_store.specs.declared.records.Limits.{Limits}
@@ -21,13 +21,13 @@ unfoldable pub step_line : (method index : ℕ) → List ℕ
 step_line m i = decimal m ++ next_number i ++ 10 ∷ []
 
 -- two digits for each byte, in lower case
-abbrev pub hex_of : ℕ → List ℕ
-hex_of byte = hex_digit (byte / 16) ∷ hex_digit (byte % 16) ∷ []
+abbrev pub log_hex : ℕ → List ℕ
+log_hex byte = hex_digit (byte / 16) ∷ hex_digit (byte % 16) ∷ []
 
 -- what a step wrote; where it wrote nothing there is no line
 abbrev pub out_line : List ℕ → List ℕ
 out_line [] = []
-out_line (b ∷ bs) = codes "out " ++ flat_map hex_of (b ∷ bs) ++ 10 ∷ []
+out_line (b ∷ bs) = codes "out " ++ flat_map log_hex (b ∷ bs) ++ 10 ∷ []
 
 -- ---- the end
 
@@ -45,7 +45,7 @@ word_end word = codes "end " ++ word ++ 10 ∷ []
 
 -- what was thrown, by a name, which is shown with escapes
 unfoldable pub uncaught_end : List ℕ → List ℕ
-uncaught_end name = codes "end Uncaught " ++ escaped name ++ 10 ∷ []
+uncaught_end name = codes "end Uncaught " ++ with_escapes name ++ 10 ∷ []
 
 -- the name of what the profile leaves out
 unfoldable pub profile_end : List ℕ → List ℕ
@@ -66,11 +66,11 @@ hex_digits (suc k) n = hex_digits k (n / 16) ++ hex_digit (n % 16) ∷ []
 unfoldable pub head_line : ℕ → List ℕ
 head_line n = hex_digits 8 n ++ 10 ∷ []
 
-abbrev pub numbers_of : (fuel : ℕ) → Limits → List ℕ
-numbers_of fuel m = fuel ∷ m.objects ∷ m.cells ∷ m.text ∷ m.frames ∷ m.stack ∷ []
+abbrev pub limit_numbers : (fuel : ℕ) → Limits → List ℕ
+limit_numbers fuel m = fuel ∷ m.objects ∷ m.cells ∷ m.text ∷ m.frames ∷ m.stack ∷ []
 
 unfoldable pub limits_text : (fuel : ℕ) → Limits → List ℕ
-limits_text fuel m = codes "limits" ++ flat_map next_number (numbers_of fuel m)
+limits_text fuel m = codes "limits" ++ flat_map next_number (limit_numbers fuel m)
 
 -- the line of the fuel and the limits
 abbrev pub limits_line : (fuel : ℕ) → Limits → List ℕ

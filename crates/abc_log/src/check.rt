@@ -2,7 +2,7 @@ ghost use Rattle.std.specs.Prelude.{◌≡◌, ◌⊎◌, ◌≤◌, [], Err, If
 ghost use Rattle.std.specs.Io.KnownBytes.{Consumes, IsAtEnd};
 ghost use Rattle.abc_base.specs.Faults.{Rose};
 ghost use Rattle.abc_log.specs.declared.compare.Verdict.TheVariants.{ReadFault, Same};
-ghost use Rattle.abc_log.specs.Checks.{IsFaultOf, IsTooMuch};
+ghost use Rattle.abc_log.specs.Checks.{IsLogFault, IsTooMuch};
 ghost use Rattle.abc_log.specs.declared.check.LogFault.{LogFault};
 ghost use Rattle.abc_log.specs.declared.check.LogFault.TheVariants as faults;
 
@@ -28,7 +28,8 @@ impl From<Failed> for LogFault {
 
 /// Whether nothing more follows, where so many bytes agreed.
 fn check_end<S: Source>(source: &mut S, agreed: u64) -> Result<(), LogFault>
-    ensures end { OnOk result (Consumes (S.left source.old) (S.left source.new) [] × IsAtEnd (S.left source.new)) }
+    ensures end { OnOk result
+        (Consumes (S.left source.old) (S.left source.new) [] × IsAtEnd (S.left source.new)) }
     ensures more { IfErr result (IsTooMuch (S.left source.old) agreed) }
     ensures later { S.faults source.old ≤ S.faults source.new }
     ensures cause { result ≡ Err LogFault.ReadFault → Rose (S.faults source.old) (S.faults source.new) }
@@ -47,10 +48,12 @@ pub fn check_verdict<S: Source>(
     verdict: Verdict,
     agreed: u64,
 ) -> Result<(), LogFault>
-    ensures end { OnOk result ((verdict ≡ Same) × Consumes (S.left source.old) (S.left source.new) [] × IsAtEnd (S.left source.new)) }
-    ensures fault { IfErr result (IsFaultOf verdict (S.left source.old) agreed) }
+    ensures end { OnOk result ((verdict ≡ Same) × Consumes (S.left source.old) (S.left source.new) []
+        × IsAtEnd (S.left source.new)) }
+    ensures fault { IfErr result (IsLogFault verdict (S.left source.old) agreed) }
     ensures later { S.faults source.old ≤ S.faults source.new }
-    ensures cause { result ≡ Err LogFault.ReadFault → (verdict ≡ ReadFault) ⊎ Rose (S.faults source.old) (S.faults source.new) }
+    ensures cause { result ≡ Err LogFault.ReadFault
+        → (verdict ≡ ReadFault) ⊎ Rose (S.faults source.old) (S.faults source.new) }
 {
     match verdict {
         Verdict::Same => check_end(source, agreed),

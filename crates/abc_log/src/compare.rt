@@ -39,7 +39,8 @@ impl<S> Model for Compare<S> {
 
     ghost Value = { CompareView S };
 
-    ghost view = { λ c. record { source = c.source; agreed = c.agreed; verdict = c.verdict; faults = c.faults } };
+    ghost view = { λ c. record
+        { source = c.source; agreed = c.agreed; verdict = c.verdict; faults = c.faults } };
 }
 
 impl<S: Source> Compare<S> {
@@ -131,7 +132,9 @@ impl<S: Source> Compare<S> {
         requires agreed { self.old.verdict ≡ Same }
         ensures some { 0 < result }
         ensures within { result ≤ length piece.now }
-        ensures follows { FollowsOn (S.left self.old.source) (S.faults self.old.source) self.old.agreed (take result piece.now) (S.left self.new.source) (S.faults self.new.source) self.new.agreed self.new.verdict }
+        ensures follows { FollowsOn (S.left self.old.source) (S.faults self.old.source) self.old.agreed
+            (take result piece.now) (S.left self.new.source) (S.faults self.new.source) self.new.agreed
+            self.new.verdict }
         ensures faults { self.new.faults ≡ self.old.faults }
         ensures same { S.name self.new.source ≡ S.name self.old.source }
     {
@@ -162,9 +165,12 @@ impl<S: Source> Sink for Compare<S> {
         ensures bytes { WriteAppends None None result piece.now }
         ensures cause { HasCause self.old.faults self.new.faults result }
         ensures nothing { length piece.now ≡ 0 → (result ≡ Ok 0) × (self.new ≡ self.old) }
-        ensures again { 0 < length piece.now → self.old.verdict ≢ Same → (result ≡ Err (record {})) × (self.new ≡ record self.old { faults = one_more self.old.faults }) }
+        ensures again { 0 < length piece.now → self.old.verdict ≢ Same
+            → (result ≡ Err (record {}))
+            × (self.new ≡ record self.old { faults = one_more self.old.faults }) }
         ensures same { S.name self.new.source ≡ S.name self.old.source }
-        ensures compares { 0 < length piece.now → self.old.verdict ≡ Same → ComparesAs S.left S.faults (slice_index piece.now 0) self.old result self.new }
+        ensures compares { 0 < length piece.now → self.old.verdict ≡ Same
+            → ComparesAs S.left S.faults (slice_index piece.now 0) self.old result self.new }
     {
         if piece.len() == 0 {
             return Ok(0);

@@ -1,7 +1,7 @@
 ghost use Rattle.std.specs.Prelude.{◌≡◌, ◌∷◌, ◌++◌, []};
 ghost use Rattle.abc_base.specs.Faults.{HasCause};
 ghost use Rattle.abc_base.specs.Sinks.{WritesAll};
-ghost use Rattle.abc_base.specs.Escapes.{escaped};
+ghost use Rattle.abc_base.specs.Escapes.{with_escapes};
 ghost use Rattle.abc_log.specs.Lines.{limit_end, limit_name as name_of_limit, profile_end, uncaught_end, word_end};
 
 use crate::line_bytes::write_three;
@@ -21,7 +21,8 @@ pub fn write_word_end<K: Sink>(log: &mut K, word: &[u8]) -> Result<(), Failed>
 /// Writes a line of a word and a name, which is shown with escapes.
 #[tactic(auto, using(abc_base::proofs::Writing::writing))]
 fn write_shown<K: Sink>(log: &mut K, word: &[u8], name: &[u8]) -> Result<(), Failed>
-    ensures bytes { WritesAll (K.written log.old) (K.written log.new) result (word.now ++ escaped name.now ++ 10 ∷ []) }
+    ensures bytes { WritesAll (K.written log.old) (K.written log.new) result
+        (word.now ++ with_escapes name.now ++ 10 ∷ []) }
     ensures cause { HasCause (K.faults log.old) (K.faults log.new) result }
 {
     write_all(log, word)?;

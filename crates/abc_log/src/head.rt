@@ -4,7 +4,7 @@ ghost use Rattle.abc_base.specs.Faults.{Rose};
 ghost use Rattle.abc_base.specs.Taking.{TakesAtMost};
 ghost use Rattle.abc_base.specs.Escapes.{hex_digit};
 ghost use Rattle.abc_log.specs.Lines.{head_line};
-ghost use Rattle.abc_log.specs.Heads.{IsHeadStop, is_hex};
+ghost use Rattle.abc_log.specs.Heads.{IsHeadStop, is_lower_hex};
 ghost use Rattle.abc_log.specs.declared.errors.HeadError.{HeadError};
 
 use crate::errors::HeadError;
@@ -14,7 +14,7 @@ use abc_base::Source;
 /// The value of a digit to the base of sixteen, in lower case.
 fn digit_value(byte: u8) -> Option<u8>
     ensures value { IfSome result (λ d. (d < 16) × (byte ≡ hex_digit d)) }
-    ensures none { IfNone result (is_hex byte ≡ false) }
+    ensures none { IfNone result (is_lower_hex byte ≡ false) }
 {
     match byte {
         b'0'..=b'9' => Some(byte - b'0'),
@@ -26,7 +26,8 @@ fn digit_value(byte: u8) -> Option<u8>
 /// The digit at this place of the line.
 fn read_digit<S: Source>(source: &mut S, place: u32) -> Result<u8, HeadError>
     requires { place < 8 }
-    ensures digit { IfOk result (λ d. (d < 16) × Consumes (S.left source.old) (S.left source.new) (hex_digit d ∷ [])) }
+    ensures digit { IfOk result
+        (λ d. (d < 16) × Consumes (S.left source.old) (S.left source.new) (hex_digit d ∷ [])) }
     ensures stops { IfErr result (λ e. IsHeadStop place (S.left source.old) e) }
     ensures taken { TakesAtMost (S.left source.old) (S.left source.new) 1 }
     ensures later { S.faults source.old ≤ S.faults source.new }

@@ -35,7 +35,8 @@ pub fn write_head_line<K: Sink>(log: &mut K, length: u32) -> Result<(), Failed>
 /// Writes numbers, each behind a space.
 #[tactic(auto, using(abc_base::proofs::Writing::writing))]
 fn write_numbers<K: Sink>(log: &mut K, numbers: &[u32]) -> Result<(), Failed>
-    ensures bytes { WritesAll (K.written log.old) (K.written log.new) result (flat_map next_number numbers.now) }
+    ensures bytes { WritesAll (K.written log.old) (K.written log.new) result
+        (flat_map next_number numbers.now) }
     ensures cause { HasCause (K.faults log.old) (K.faults log.new) result }
 {
     for number in numbers {
@@ -47,7 +48,8 @@ fn write_numbers<K: Sink>(log: &mut K, numbers: &[u32]) -> Result<(), Failed>
 /// Writes a line of a word and numbers.
 #[tactic(auto, using(abc_base::proofs::Writing::writing))]
 fn write_counts<K: Sink>(log: &mut K, word: &[u8], numbers: &[u32]) -> Result<(), Failed>
-    ensures bytes { WritesAll (K.written log.old) (K.written log.new) result (word.now ++ flat_map next_number numbers.now ++ 10 ∷ []) }
+    ensures bytes { WritesAll (K.written log.old) (K.written log.new) result
+        (word.now ++ flat_map next_number numbers.now ++ 10 ∷ []) }
     ensures cause { HasCause (K.faults log.old) (K.faults log.new) result }
 {
     write_all(log, word)?;

@@ -2,7 +2,7 @@ ghost use Rattle.std.specs.Prelude.{◌≡◌, ◌<◌, [], Some, Ok, IfOk, leng
 ghost use Rattle.std.specs.Io.{WritesAtMost};
 ghost use Rattle.std.specs.Io.KnownBytes.{WriteAppends};
 ghost use Rattle.abc_base.specs.Faults.{HasCause};
-ghost use Rattle.abc_log.specs.Followed.{Follows, bytes_in, name_in, noted, number_in, told};
+ghost use Rattle.abc_log.specs.Followed.{FollowsLog, bytes_in, noted_name, start_note, noted_number, start_and_since};
 ghost use Rattle.abc_log.specs.declared.compare.Verdict.TheVariants.{Same};
 
 use crate::compare::{Compare, Verdict};
@@ -15,18 +15,19 @@ use abc_base::{Failed, Sink, Source};
 pub struct Lenient<S: Source> {
     compare: Compare<S>,
     history: History,
-    ghost named: { S.name compare.source ≡ name_in history.start },
+    ghost named: { S.name compare.source ≡ noted_name history.start },
     ghost quiet: { compare.verdict ≡ Same → compare.faults ≡ 0 },
-    ghost follows: { ∥ Follows (bytes_in history.start) (number_in history.start) history.bytes (S.left compare.source) (S.faults compare.source) compare.agreed compare.verdict ∥₁ },
+    ghost follows: { ∥ FollowsLog (bytes_in history.start) (noted_number history.start) history.bytes (S.left compare.source) (S.faults compare.source) compare.agreed compare.verdict ∥₁ },
 }
 
 impl<S: Source> Lenient<S> {
-    ghost use Rattle.abc_log.specs.Lenients.{inner_agreed, inner_source, inner_verdict, start_of, bytes_of};
+    ghost use Rattle.abc_log.specs.Lenients.{inner_agreed, inner_source, inner_verdict, start_of_compare, bytes_since};
 
     /// Nothing is written yet.
     pub fn new(source: S) -> Lenient<S>
-        ensures start { start_of result ≡ noted (S.name source) (S.faults source) (S.left source) }
-        ensures bytes { bytes_of result ≡ [] }
+        ensures start { start_of_compare result
+            ≡ start_note (S.name source) (S.faults source) (S.left source) }
+        ensures bytes { bytes_since result ≡ [] }
         ensures verdict { inner_verdict result ≡ Same }
     {
         let history = History::new(&source);
@@ -59,7 +60,7 @@ impl<S: Source> Lenient<S> {
 }
 
 impl<S: Source> Sink for Lenient<S> {
-    ghost written = { λ l. Some (told l.history.start l.history.bytes) };
+    ghost written = { λ l. Some (start_and_since l.history.start l.history.bytes) };
 
     ghost faults = { λ l. l.compare.faults };
 

@@ -29,7 +29,8 @@ pub struct LimitsLine {
 fn limits_in(line: &[u8]) -> Option<(u32, Limits)>
     ensures some { IfSome result (λ x. line.now ≡ limits_text x.0 x.1) }
     ensures limits { IfSome result (λ x. AreLimits x.0 x.1) }
-    ensures none { IfNone result ((fuel : ℕ) → (m : Limits) → AreLimits fuel m → line.now ≢ limits_text fuel m) }
+    ensures none { IfNone result
+        ((fuel : ℕ) → (m : Limits) → AreLimits fuel m → line.now ≢ limits_text fuel m) }
 {
     let rest = line.strip_prefix(b"limits")?;
     let mut numbers = [0; 6];
@@ -58,9 +59,11 @@ fn limits_in(line: &[u8]) -> Option<(u32, Limits)>
 /// Reads a line up to its line feed, which is taken too. `Wrong` comes where there is none within so many bytes.
 fn read_line<S: Source>(source: &mut S, line: &mut [u8]) -> Result<usize, LimitsError>
     ensures within { IfOk result (λ n. n < length line.new) }
-    ensures line { IfOk result (λ n. Consumes (S.left source.old) (S.left source.new) (take n line.new ++ 10 ∷ [])) }
+    ensures line { IfOk result
+        (λ n. Consumes (S.left source.old) (S.left source.new) (take n line.new ++ 10 ∷ [])) }
     ensures one { IfOk result (λ n. list_all is_no_feed (take n line.new) ≡ true) }
-    ensures wrong { result ≡ Err LimitsError.Wrong → IfSome (S.left source.old) (HasNoLine (length line.old)) }
+    ensures wrong { result ≡ Err LimitsError.Wrong
+        → IfSome (S.left source.old) (HasNoLine (length line.old)) }
     ensures taken { TakesAtMost (S.left source.old) (S.left source.new) (length line.old) }
     ensures later { S.faults source.old ≤ S.faults source.new }
     ensures cause { result ≡ Err LimitsError.ReadFault → Rose (S.faults source.old) (S.faults source.new) }
@@ -79,7 +82,8 @@ fn read_line<S: Source>(source: &mut S, line: &mut [u8]) -> Result<usize, Limits
 /// Reads the line behind the file. `Wrong` comes exactly where the input doesn't begin with such a line, unless a read failed before;
 /// `ReadFault` only where the source's count of faults rose. Whatever is answered, at most 64 bytes are taken.
 pub fn read_limits<S: Source>(source: &mut S) -> Result<LimitsLine, LimitsError>
-    ensures line { IfOk result (λ x. Consumes (S.left source.old) (S.left source.new) (limits_line x.fuel x.limits)) }
+    ensures line { IfOk result
+        (λ x. Consumes (S.left source.old) (S.left source.new) (limits_line x.fuel x.limits)) }
     ensures limits { IfOk result (λ x. AreLimits x.fuel x.limits) }
     ensures long { IfOk result (λ x. x.length ≡ length (limits_line x.fuel x.limits)) }
     ensures few { IfOk result (λ x. x.length ≤ 64) }

@@ -2,7 +2,7 @@ ghost use Rattle.std.specs.Prelude.{◌≡◌, ◌<◌, ◌∷◌, ◌++◌, [],
 ghost use Rattle.abc_base.specs.Faults.{HasCause};
 ghost use Rattle.abc_base.specs.Sinks.{WritesAll};
 ghost use Rattle.abc_base.specs.Escapes.{hex_digit as hex_digit_of};
-ghost use Rattle.abc_log.specs.Lines.{hex_of, next_number};
+ghost use Rattle.abc_log.specs.Lines.{log_hex, next_number};
 
 use abc_base::{Failed, Sink, write_all};
 use itoa::Buffer;
@@ -26,7 +26,7 @@ pub(crate) fn write_digit<K: Sink>(log: &mut K, n: u8) -> Result<(), Failed>
 
 /// The two digits of a byte.
 pub fn hex(byte: u8) -> [u8; 2]
-    ensures { result ≡ hex_of byte }
+    ensures { result ≡ log_hex byte }
 {
     [hex_digit(byte / 16), hex_digit(byte % 16)]
 }

@@ -1,7 +1,7 @@
 ghost use Rattle.std.specs.Prelude.{◌≡◌, ◌⊎◌, ◌<◌, ◌≤◌, Err, IfOk, length};
 ghost use Rattle.std.specs.Io.KnownBytes.{Consumes, IsAtEnd};
 ghost use Rattle.abc_base.specs.Faults.{Rose};
-ghost use Rattle.abc_base.specs.Taking.{Moves, TakesAtMost};
+ghost use Rattle.abc_base.specs.Taking.{MovesBytes, TakesAtMost};
 ghost use Rattle.abc_log.specs.declared.log_part.PartError.{PartError};
 ghost use Rattle.abc_log.specs.declared.log_part.PartError.TheVariants as errors;
 
@@ -36,7 +36,8 @@ impl From<AllocError> for PartError {
 /// Appends the next bytes of the input, at most so many, and answers whether there were any.
 fn read_more<S: Source>(source: &mut S, room: usize, bytes: &mut Vec<u8>) -> Result<bool, PartError>
     requires { 0 < room }
-    ensures moves { Moves (S.left source.old) (S.left source.new) room bytes.old.items bytes.new.items result }
+    ensures moves { MovesBytes (S.left source.old) (S.left source.new) room bytes.old.items bytes.new.items
+        result }
     ensures later { S.faults source.old ≤ S.faults source.new }
     ensures cause { result ≡ Err PartError.ReadFault → Rose (S.faults source.old) (S.faults source.new) }
 {

@@ -2,7 +2,7 @@ ghost use Rattle.std.specs.Prelude.{◌≡◌, ◌≢◌, ◌<◌, ◌^◌, ◌+
 ghost use Rattle.std.specs.Bool.{OnFalse, OnTrue};
 ghost use Rattle.std.specs.List.{flat_map, take_while};
 ghost use Rattle.abc_log.specs.Lines.{next_number};
-ghost use Rattle.abc_log.specs.Limits.{EndsAll, is_digit};
+ghost use Rattle.abc_log.specs.Limits.{EndsAll, is_limit_digit};
 
 use itoa::Buffer;
 use std::str;
@@ -29,7 +29,7 @@ fn number_of(digits: &[u8]) -> Option<u32>
 
 /// How many digits are at the front.
 fn digit_count(bytes: &[u8]) -> usize
-    ensures { result ≡ length (take_while is_digit bytes.now) }
+    ensures { result ≡ length (take_while is_limit_digit bytes.now) }
 {
     bytes
         .iter()
@@ -41,8 +41,9 @@ fn digit_count(bytes: &[u8]) -> usize
 fn next(bytes: &[u8]) -> Option<(u32, &[u8])>
     ensures some { IfSome result (λ x. bytes.now ≡ next_number x.0 ++ x.1.now) }
     ensures small { IfSome result (λ x. x.0 < 2 ^ 32) }
-    ensures ends { IfSome result (λ x. EndsAll is_digit x.1.now) }
-    ensures none { IfNone result ((n : ℕ) → (more : List ℕ) → n < 2 ^ 32 → EndsAll is_digit more → bytes.now ≢ next_number n ++ more) }
+    ensures ends { IfSome result (λ x. EndsAll is_limit_digit x.1.now) }
+    ensures none { IfNone result ((n : ℕ) → (more : List ℕ) → n < 2 ^ 32 → EndsAll is_limit_digit more
+        → bytes.now ≢ next_number n ++ more) }
 {
     let rest = bytes.strip_prefix(b" ")?;
     let count = digit_count(rest);
@@ -54,7 +55,8 @@ fn next(bytes: &[u8]) -> Option<(u32, &[u8])>
 pub(crate) fn read_numbers(bytes: &[u8], numbers: &mut [u32]) -> bool
     ensures all { OnTrue result (bytes.now ≡ flat_map next_number numbers.new) }
     ensures small { OnTrue result (EachIndex numbers.new (λ k. slice_index numbers.new k < 2 ^ 32)) }
-    ensures none { OnFalse result ((ns : List ℕ) → length ns ≡ length numbers.old → EachIndex ns (λ k. slice_index ns k < 2 ^ 32) → bytes.now ≢ flat_map next_number ns) }
+    ensures none { OnFalse result ((ns : List ℕ) → length ns ≡ length numbers.old
+        → EachIndex ns (λ k. slice_index ns k < 2 ^ 32) → bytes.now ≢ flat_map next_number ns) }
 {
     let mut rest = bytes;
     for number in numbers.iter_mut() {

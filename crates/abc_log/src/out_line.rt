@@ -1,9 +1,9 @@
 ghost use Rattle.std.specs.Prelude.{◌≡◌, ◌≢◌, [], IsErr, IsSome, Some, false};
 ghost use Rattle.abc_base.specs.Faults.{HasCause};
 ghost use Rattle.abc_base.specs.Sinks.{GrowsByFront, WritesAll};
-ghost use Rattle.abc_log.specs.Followed.{bytes_in, name_in, noted, number_in, told};
+ghost use Rattle.abc_log.specs.Followed.{bytes_in, noted_name, start_note, noted_number, start_and_since};
 ghost use Rattle.abc_log.specs.Lines.{out_line};
-ghost use Rattle.abc_log.specs.Outs.{IsShown, open_line};
+ghost use Rattle.abc_log.specs.Outs.{AreBytesShown, open_line};
 
 use crate::history::History;
 use crate::lent::Log;
@@ -17,18 +17,18 @@ pub struct OutLine<L: Log> {
     shown: Shown<L>,
     faults: u64,
     history: History,
-    ghost named: { L.name shown.log ≡ name_in history.start },
+    ghost named: { L.name shown.log ≡ noted_name history.start },
     ghost quiet: { shown.failed ≡ false → faults ≡ 0 },
-    ghost follows: { ∥ IsShown (bytes_in history.start) (number_in history.start) history.bytes (L.written shown.log) (L.faults shown.log) shown.some shown.failed ∥₁ },
+    ghost follows: { ∥ AreBytesShown (bytes_in history.start) (noted_number history.start) history.bytes (L.written shown.log) (L.faults shown.log) shown.some shown.failed ∥₁ },
 }
 
 impl<L: Log> OutLine<L> {
-    ghost use Rattle.abc_log.specs.OutLines.{bytes_of, faults_of, start_of};
+    ghost use Rattle.abc_log.specs.OutLines.{bytes_shown, line_faults, start_of_line};
 
     /// Nothing is written yet.
     pub fn new(log: L) -> OutLine<L>
-        ensures start { start_of result ≡ noted (L.name log) (L.faults log) (L.written log) }
-        ensures bytes { bytes_of result ≡ [] }
+        ensures start { start_of_line result ≡ start_note (L.name log) (L.faults log) (L.written log) }
+        ensures bytes { bytes_shown result ≡ [] }
     {
         let history = History::new(&log);
         OutLine {
@@ -41,10 +41,15 @@ impl<L: Log> OutLine<L> {
     /// The line ends: where there was a byte, by a line feed. It gives the log as it stands, and fails where that failed, now or
     /// before, after a front of the line; where a write to the line failed, that has no line feed.
     pub fn end(self) -> (L, Result<(), Failed>)
-        ensures line { WritesAll (bytes_in (start_of self)) (L.written result.0) result.1 (out_line (bytes_of self)) }
-        ensures front { faults_of self ≢ 0 → IsErr result.1 × (IsSome (bytes_in (start_of self)) → GrowsByFront (bytes_in (start_of self)) (L.written result.0) (open_line (bytes_of self))) }
-        ensures cause { HasCause (number_in (start_of self)) (L.faults result.0) result.1 }
-        ensures same { L.name result.0 ≡ name_in (start_of self) }
+        ensures line { WritesAll (bytes_in (start_of_line self)) (L.written result.0) result.1
+            (out_line (bytes_shown self)) }
+        ensures front { line_faults self ≢ 0
+            → IsErr result.1
+            × (IsSome (bytes_in (start_of_line self))
+            → GrowsByFront (bytes_in (start_of_line self)) (L.written result.0)
+            (open_line (bytes_shown self))) }
+        ensures cause { HasCause (noted_number (start_of_line self)) (L.faults result.0) result.1 }
+        ensures same { L.name result.0 ≡ noted_name (start_of_line self) }
     {
         let mut shown = self.shown;
         let ended = shown.end();
@@ -53,7 +58,7 @@ impl<L: Log> OutLine<L> {
 }
 
 impl<L: Log> Sink for OutLine<L> {
-    ghost written = { λ o. Some (told o.history.start o.history.bytes) };
+    ghost written = { λ o. Some (start_and_since o.history.start o.history.bytes) };
 
     ghost faults = { λ o. o.faults };
 

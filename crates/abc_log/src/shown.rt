@@ -1,7 +1,7 @@
 ghost use Rattle.std.specs.Prelude.{◌≡◌, ◌≤◌, ◌++◌, true, false, Err};
 ghost use Rattle.abc_base.specs.Faults.{HasCause};
 ghost use Rattle.abc_base.specs.Sinks.{WritesAll};
-ghost use Rattle.abc_log.specs.Outs.{Shows, end_of, shown_byte};
+ghost use Rattle.abc_log.specs.Outs.{ShowsByte, end_of_line, shown_byte};
 
 use crate::lent::Log;
 use crate::line_bytes::hex;
@@ -71,7 +71,7 @@ impl<L: Log> Shown<L> {
     /// One byte more.
     pub fn show(&mut self, byte: u8)
         requires { self.old.failed ≡ false }
-        ensures shows { Shows L.written L.faults byte self.old self.new }
+        ensures shows { ShowsByte L.written L.faults byte self.old self.new }
         ensures same { L.name self.new.log ≡ L.name self.old.log }
     {
         self.failed = put_byte(&mut self.log, self.some, byte).is_err();
@@ -81,8 +81,10 @@ impl<L: Log> Shown<L> {
     /// The line ends: where there was a byte, by a line feed. It fails where the log failed, now or before.
     pub fn end(&mut self) -> Result<(), Failed>
         ensures failed { self.old.failed ≡ true → (result ≡ Err (record {})) × (self.new ≡ self.old) }
-        ensures ends { self.old.failed ≡ false → WritesAll (L.written self.old.log) (L.written self.new.log) result (end_of self.old.some) }
-        ensures cause { self.old.failed ≡ false → HasCause (L.faults self.old.log) (L.faults self.new.log) result }
+        ensures ends { self.old.failed ≡ false
+            → WritesAll (L.written self.old.log) (L.written self.new.log) result (end_of_line self.old.some) }
+        ensures cause { self.old.failed ≡ false
+            → HasCause (L.faults self.old.log) (L.faults self.new.log) result }
         ensures later { L.faults self.old.log ≤ L.faults self.new.log }
         ensures same { L.name self.new.log ≡ L.name self.old.log }
     {

@@ -10,7 +10,8 @@ use itoa::write_digits;
 /// Writes a line of a word and a number.
 #[tactic(auto, using(abc_base::proofs::Writing::writing))]
 fn write_word<K: Sink>(log: &mut K, word: &[u8], number: u32) -> Result<(), Failed>
-    ensures bytes { WritesAll (K.written log.old) (K.written log.new) result (word.now ++ next_number number ++ 10 ∷ []) }
+    ensures bytes { WritesAll (K.written log.old) (K.written log.new) result
+        (word.now ++ next_number number ++ 10 ∷ []) }
     ensures cause { HasCause (K.faults log.old) (K.faults log.new) result }
 {
     write_all(log, word)?;

@@ -58,13 +58,18 @@ impl<S: Source> Source for Part<S> {
     /// It gives no byte for room exactly where all were taken, or its source has ended.
     fn read(&mut self, into: &mut [u8]) -> Result<usize, Failed>
         ensures bound { ReadsAtMost result into.new }
-        ensures bytes { ReadConsumes (front_of self.old.room (S.left self.old.source)) (front_of self.new.room (S.left self.new.source)) result into.new }
+        ensures bytes { ReadConsumes (front_of self.old.room (S.left self.old.source))
+            (front_of self.new.room (S.left self.new.source)) result into.new }
         ensures cause { HasCause (S.faults self.old.source) (S.faults self.new.source) result }
-        ensures taken { MatchResult result (λ n. Consumes (S.left self.old.source) (S.left self.new.source) (take n into.new)) (λ _. Keeps (S.left self.old.source) (S.left self.new.source)) }
-        ensures room { MatchResult result (λ n. (n ≤ self.old.room) × (self.new.room ≡ self.old.room - n)) (λ _. self.new.room ≡ self.old.room) }
+        ensures taken { MatchResult result
+            (λ n. Consumes (S.left self.old.source) (S.left self.new.source) (take n into.new))
+            (λ _. Keeps (S.left self.old.source) (S.left self.new.source)) }
+        ensures room { MatchResult result (λ n. (n ≤ self.old.room) × (self.new.room ≡ self.old.room - n))
+            (λ _. self.new.room ≡ self.old.room) }
         ensures full { self.old.room ≡ 0 → (result ≡ Ok 0) × (self.new ≡ self.old) }
         ensures same { S.name self.new.source ≡ S.name self.old.source }
-        ensures ended { result ≡ Ok 0 → 0 < length into.new → (self.old.room ≡ 0) ⊎ IsAtEnd (S.left self.new.source) }
+        ensures ended { result ≡ Ok 0 → 0 < length into.new
+            → (self.old.room ≡ 0) ⊎ IsAtEnd (S.left self.new.source) }
     {
         if self.room == 0 {
             return Ok(0);

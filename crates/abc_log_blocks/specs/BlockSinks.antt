@@ -11,8 +11,8 @@ abbrev pub sink_of : {K N : Type 0} {G : Ghosts K} {H : Loans N} → BlockSink K
 sink_of b = b.sink.now
 
 -- how many bytes of the block were used
-abbrev pub end_of : {K N : Type 0} {G : Ghosts K} {H : Loans N} → BlockSink K N G H → ℕ
-end_of b = b.end
+abbrev pub block_end : {K N : Type 0} {G : Ghosts K} {H : Loans N} → BlockSink K N G H → ℕ
+block_end b = b.end
 
 -- the bytes that wait to be handed on
 abbrev pub waiting_of : {K N : Type 0} {G : Ghosts K} {H : Loans N} → BlockSink K N G H → List ℕ
@@ -23,5 +23,5 @@ abbrev pub written_of : {K N : Type 0} {G : Ghosts K} {H : Loans N} → BlockSin
 written_of {G = G} b = append_known (G.written b.sink.now) (waiting_of b)
 
 -- how many writes of the sink below failed
-abbrev pub faults_of : {K N : Type 0} {G : Ghosts K} {H : Loans N} → BlockSink K N G H → ℕ
-faults_of {G = G} b = G.faults b.sink.now
+abbrev pub sink_faults : {K N : Type 0} {G : Ghosts K} {H : Loans N} → BlockSink K N G H → ℕ
+sink_faults {G = G} b = G.faults b.sink.now

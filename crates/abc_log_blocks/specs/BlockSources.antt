@@ -19,5 +19,5 @@ abbrev pub left_of : {S N : Type 0} {G : Ghosts S} {H : Loans N} → BlockSource
 left_of {G = G} b = prepend_known (held_of b) (G.left b.source.now)
 
 -- how many reads of the source below failed
-abbrev pub faults_of : {S N : Type 0} {G : Ghosts S} {H : Loans N} → BlockSource S N G H → ℕ
-faults_of {G = G} b = G.faults b.source.now
+abbrev pub source_faults : {S N : Type 0} {G : Ghosts S} {H : Loans N} → BlockSource S N G H → ℕ
+source_faults {G = G} b = G.faults b.source.now

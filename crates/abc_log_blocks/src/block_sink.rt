@@ -43,14 +43,14 @@ fn put<K: Sink>(sink: &mut K, bytes: &[u8]) -> (usize, Result<(), Failed>)
 }
 
 impl<'a, K: Sink, N: SinkLoan> BlockSink<'a, K, N> {
-    ghost use Rattle.abc_log_blocks.specs.BlockSinks.{end_of, faults_of, sink_of, waiting_of, written_of};
+    ghost use Rattle.abc_log_blocks.specs.BlockSinks.{block_end, sink_faults, sink_of, waiting_of, written_of};
 
     /// Nothing is written yet.
     pub fn new(sink: &'a mut K) -> BlockSink<'a, K, N>
         requires name { sink.ghost_name ≡ N.name }
         requires before { K.written sink.old ≡ N.before }
         ensures written { written_of result ≡ K.written sink.old }
-        ensures faults { faults_of result ≡ K.faults sink.old }
+        ensures faults { sink_faults result ≡ K.faults sink.old }
     {
         BlockSink {
             sink,
@@ -65,7 +65,7 @@ impl<'a, K: Sink, N: SinkLoan> BlockSink<'a, K, N> {
     pub fn hand_on(&mut self) -> Result<(), Failed>
         ensures bytes { Keeps (written_of self.old) (written_of self.new) }
         ensures none { OnOk result (waiting_of self.new ≡ []) }
-        ensures cause { HasCause (faults_of self.old) (faults_of self.new) result }
+        ensures cause { HasCause (sink_faults self.old) (sink_faults self.new) result }
     {
         let (at, end) = (self.at, self.end);
         let bytes = self.bytes.as_slice();
@@ -77,8 +77,8 @@ impl<'a, K: Sink, N: SinkLoan> BlockSink<'a, K, N> {
     /// Hands on what waits where there is no room for more.
     fn make_room(&mut self) -> Result<(), Failed>
         ensures bytes { Keeps (written_of self.old) (written_of self.new) }
-        ensures room { OnOk result (end_of self.new < 4096) }
-        ensures cause { HasCause (faults_of self.old) (faults_of self.new) result }
+        ensures room { OnOk result (block_end self.new < 4096) }
+        ensures cause { HasCause (sink_faults self.old) (sink_faults self.new) result }
     {
         if self.end < BLOCK {
             return Ok(());
@@ -91,7 +91,7 @@ impl<'a, K: Sink, N: SinkLoan> BlockSink<'a, K, N> {
 
     /// The first bytes of a piece wait behind the others, as many as there is room for: it gives their number.
     fn gather(&mut self, piece: &[u8]) -> usize
-        ensures count { result ≡ min (length piece.now) (4096 - end_of self.old) }
+        ensures count { result ≡ min (length piece.now) (4096 - block_end self.old) }
         ensures bytes { waiting_of self.new ≡ waiting_of self.old ++ take result piece.now }
         ensures sink { sink_of self.new ≡ sink_of self.old }
     {

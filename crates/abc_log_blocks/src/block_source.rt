@@ -20,13 +20,13 @@ pub struct BlockSource<'a, S: Source, N: SourceLoan> {
 }
 
 impl<'a, S: Source, N: SourceLoan> BlockSource<'a, S, N> {
-    ghost use Rattle.abc_log_blocks.specs.BlockSources.{faults_of, held_of, left_of, source_of};
+    ghost use Rattle.abc_log_blocks.specs.BlockSources.{source_faults, held_of, left_of, source_of};
 
     /// No byte is taken yet.
     pub fn new(source: &'a mut S) -> BlockSource<'a, S, N>
         requires { source.ghost_name ≡ N.name }
         ensures left { left_of result ≡ S.left source.old }
-        ensures faults { faults_of result ≡ S.faults source.old }
+        ensures faults { source_faults result ≡ S.faults source.old }
     {
         BlockSource {
             source,
@@ -41,7 +41,7 @@ impl<'a, S: Source, N: SourceLoan> BlockSource<'a, S, N> {
     fn fill(&mut self) -> Result<(), Failed>
         ensures keeps { Keeps (left_of self.old) (left_of self.new) }
         ensures ready { OnOk result (held_of self.new ≡ [] → IsAtEnd (S.left (source_of self.new))) }
-        ensures cause { HasCause (faults_of self.old) (faults_of self.new) result }
+        ensures cause { HasCause (source_faults self.old) (source_faults self.new) result }
     {
         if self.at < self.end {
             return Ok(());

@@ -16,17 +16,17 @@ use Rattle.abc_link_names.specs.declared.named.DefiniteName.{DefiniteName}
 use Rattle.abc_objects.proofs.Opened.{global_made}
 use Rattle.abc_objects.specs.Stands.{StandsOver}
 use Rattle.abc_link_names.proofs.Finding.{falling, found}
-use Rattle.abc_link_names.specs.Linked.{IsLinkedFile, LinkedFile, base}
+use Rattle.abc_link_names.specs.Linked.{IsLinkedFile, LinkedFile, base_layout}
 use Rattle.abc_link_names.specs.Numbering.{part_at}
 use Rattle.abc_link_names.specs.Parts.{parent}
-use Rattle.abc_link_names.specs.Places.{place_of, place_under}
+use Rattle.abc_link_names.specs.Places.{place_of_part, place_under}
 use Rattle.abc_link_names.specs.Slots.{slots_in}
 use Rattle.abc_link_names.specs.Traits.{trait_name, trait_texts}
 use Rattle.abc_link_names.specs.declared.part.Part.{Part}
 use Rattle.abc_link_names.specs.declared.part.Part.TheVariants as parts
-use Rattle.abc_objects.specs.Candidates.{OfTrait, fits, fits_space, layout_at, text_in, traits_after}
+use Rattle.abc_objects.specs.Candidates.{OfTrait, fits, fits_space, layout_at, text_of_span, traits_after}
 use Rattle.abc_objects.specs.Objects.{global_number}
-use Rattle.abc_objects.specs.Scopes.{InScript, Place, has}
+use Rattle.abc_objects.specs.Scopes.{InScript, ScopePlace, has}
 use Rattle.abc_objects.specs.Traits.{Trait, members_in, own, own_traits_of, slots_under, traits_from, traits_named}
 use Rattle.abc_objects.specs.declared.name.Name.{Name}
 use Rattle.abc_objects.specs.declared.traits.Member.{Member}
@@ -75,12 +75,12 @@ picked_append test g n (t ∷ ts) us os = go (test (g t)) (picked_append test g 
     go true ih = ap (λ (xs : List ℕ). n ∷ xs) ih
     go false ih = ih
 
-settle : (c q : Bool) (x m r : Option Place) → r ≡ cond (c && q) x m → cond c x r ≡ cond (c && true) x m
+settle : (c q : Bool) (x m r : Option ScopePlace) → r ≡ cond (c && q) x m → cond c x r ≡ cond (c && true) x m
 settle true q x m r e = refl
 settle false q x m r e = e
 
 -- a script is the first where it has the name and a trait that passes
-one_script : (p : Place → Bool) (test : List ℕ → Bool) (g : TraitInfo → List ℕ) (n : ℕ) (ts : List TraitInfo) (ys : List ℕ)
+one_script : (p : ScopePlace → Bool) (test : List ℕ → Bool) (g : TraitInfo → List ℕ) (n : ℕ) (ts : List TraitInfo) (ys : List ℕ)
     → find p (map InScript (picked test (map g ts) (map (λ (t : TraitInfo). n) ts) ++ ys)) ≡ cond (p (InScript n) && list_any test (map g ts)) (Some (InScript n)) (find p (map InScript ys))
 one_script p test g n [] ys = go (p (InScript n))
   where
@@ -96,12 +96,12 @@ one_script p test g n (t ∷ ts) ys = go (test (g t)) (one_script p test g n ts 
     go false ih = ih
 
 -- a place that has the name only where a trait passes
-both : (b q : Bool) (x m : Option Place) → (b ≡ true → q ≡ true) → cond (b && q) x m ≡ cond b x m
+both : (b q : Bool) (x m : Option ScopePlace) → (b ≡ true → q ≡ true) → cond (b && q) x m ≡ cond b x m
 both true q x m h = ap (λ c. cond c x m) (h refl)
 both false q x m h = refl
 
 -- the first script among the owners is the first of all
-first_owner : (p : Place → Bool) (test : List ℕ → Bool) (g : TraitInfo → List ℕ) (n : ℕ) (ss : List Script)
+first_owner : (p : ScopePlace → Bool) (test : List ℕ → Bool) (g : TraitInfo → List ℕ) (n : ℕ) (ss : List Script)
     → ((i : ℕ) → i < length ss → p (InScript (n + i)) ≡ true → list_any test (map g (get_or ss i no_script).traits) ≡ true)
     → find p (map InScript (picked test (map g (traits_of_scripts ss)) (owners_from n ss))) ≡ find p (map InScript (range_with_len n (length ss)))
 first_owner p test g n [] h = refl
@@ -133,12 +133,12 @@ owner_below n (s ∷ ss) i o e = go s.traits i (λ j f. owner_below (n + 1) ss j
 -- ---- the traits of a global object
 
 -- a trait that fits has the text
-text_fits : (l : LinkedFile) (h : Heap) (n : Name) (x : ℕ) (passed : List ℕ) (ts : List Trait) → list_any (fits l h n) (map (OfTrait x passed) ts) ≡ true → list_any (λ (t : Trait). bytes_eq (text_in l h n.text) t.text) ts ≡ true
+text_fits : (l : LinkedFile) (h : Heap) (n : Name) (x : ℕ) (passed : List ℕ) (ts : List Trait) → list_any (fits l h n) (map (OfTrait x passed) ts) ≡ true → list_any (λ (t : Trait). bytes_eq (text_of_span l h n.text) t.text) ts ≡ true
 text_fits l h n x passed [] e = e
-text_fits l h n x passed (t ∷ ts) e = go (bytes_eq (text_in l h n.text) t.text) (fits_space l n x passed t.declared) e (text_fits l h n x passed ts)
+text_fits l h n x passed (t ∷ ts) e = go (bytes_eq (text_of_span l h n.text) t.text) (fits_space l n x passed t.declared) e (text_fits l h n x passed ts)
   where
-    go : (b c : Bool) → ((b && c) || list_any (fits l h n) (map (OfTrait x passed) ts)) ≡ true → (list_any (fits l h n) (map (OfTrait x passed) ts) ≡ true → list_any (λ (t : Trait). bytes_eq (text_in l h n.text) t.text) ts ≡ true)
-        → (b || list_any (λ (t : Trait). bytes_eq (text_in l h n.text) t.text) ts) ≡ true
+    go : (b c : Bool) → ((b && c) || list_any (fits l h n) (map (OfTrait x passed) ts)) ≡ true → (list_any (fits l h n) (map (OfTrait x passed) ts) ≡ true → list_any (λ (t : Trait). bytes_eq (text_of_span l h n.text) t.text) ts ≡ true)
+        → (b || list_any (λ (t : Trait). bytes_eq (text_of_span l h n.text) t.text) ts) ≡ true
     go true c e ih = refl
     go false c e ih = ih e
 
@@ -181,18 +181,18 @@ any_append p (x ∷ xs) ys = go (p x) (any_append p xs ys)
 
 -- a global object has the traits of its script alone
 global_traits : (l : LinkedFile) (h : Heap) (n : Name) (x s : ℕ) (passed : List ℕ) → IsLinkedFile l → part_at l.parts x ≡ parts.Global s
-    → list_any (fits l h n) (traits_after l passed (way (base l) (Some x))) ≡ list_any (fits l h n) (map (OfTrait x (passed ++ x ∷ [])) (traits_from l (slots_under l (base l x)) (script_at l.file s).traits))
+    → list_any (fits l h n) (traits_after l passed (way (base_layout l) (Some x))) ≡ list_any (fits l h n) (map (OfTrait x (passed ++ x ∷ [])) (traits_from l (slots_under l (base_layout l x)) (script_at l.file s).traits))
 global_traits l h n x s passed f is =
     let top : Part = parts.Host hosts.Object in
-    let y = place_of l.parts top in
+    let y = place_of_part l.parts top in
     let fall = falling l.file l.parts f.numbering in
-    let up : base l x ≡ Some y = ap (λ q. place_under l.parts (parent l.file q)) is in
+    let up : base_layout l x ≡ Some y = ap (λ q. place_under l.parts (parent l.file q)) is in
     let at : part_at l.parts y ≡ top = found l.file l.parts f.numbering top tt in
-    let end : base l y ≡ None = ap (λ q. place_under l.parts (parent l.file q)) at in
-    let steps : way (base l) (Some x) ≡ x ∷ y ∷ [] =
-    way_some (base l) fall x ∙ ap (λ o. x ∷ way (base l) o) up ∙ ap (λ ys. x ∷ ys) (way_some (base l) fall y) ∙ ap (λ o. x ∷ y ∷ way (base l) o) end ∙ ap (λ ys. x ∷ y ∷ ys) (way_none (base l)) in
-    let own_x : own l x ≡ traits_from l (slots_under l (base l x)) (script_at l.file s).traits = ap (own_traits_of l (slots_under l (base l x))) is in
-    let own_y : own l y ≡ [] = ap (own_traits_of l (slots_under l (base l y))) at in
+    let end : base_layout l y ≡ None = ap (λ q. place_under l.parts (parent l.file q)) at in
+    let steps : way (base_layout l) (Some x) ≡ x ∷ y ∷ [] =
+    way_some (base_layout l) fall x ∙ ap (λ o. x ∷ way (base_layout l) o) up ∙ ap (λ ys. x ∷ ys) (way_some (base_layout l) fall y) ∙ ap (λ o. x ∷ y ∷ way (base_layout l) o) end ∙ ap (λ ys. x ∷ y ∷ ys) (way_none (base_layout l)) in
+    let own_x : own l x ≡ traits_from l (slots_under l (base_layout l x)) (script_at l.file s).traits = ap (own_traits_of l (slots_under l (base_layout l x))) is in
+    let own_y : own l y ≡ [] = ap (own_traits_of l (slots_under l (base_layout l y))) at in
     let ps = passed ++ x ∷ [] in
     ap (λ ys. list_any (fits l h n) (traits_after l passed ys)) steps
     ∙ ap (λ ts. list_any (fits l h n) (map (OfTrait x ps) (own l x) ++ (map (OfTrait y (ps ++ y ∷ [])) ts ++ []))) own_y
@@ -201,23 +201,23 @@ global_traits l h n x s passed f is =
     ∙ ap (λ ts. list_any (fits l h n) (map (OfTrait x ps) ts)) own_x
 
 -- a script that has the name has a trait of the text
-script_tells : (l : LinkedFile) (h : Heap) (n : Name) (t : List ℕ) (s : ℕ) → StandsOver l h → t ≡ text_in l h n.text → s < length l.file.scripts → has l h n (InScript s) ≡ true
+script_tells : (l : LinkedFile) (h : Heap) (n : Name) (t : List ℕ) (s : ℕ) → StandsOver l h → t ≡ text_of_span l h n.text → s < length l.file.scripts → has l h n (InScript s) ≡ true
     → list_any (bytes_eq t) (trait_texts l.file (script_at l.file s).traits) ≡ true
 script_tells l h n t s st is lt e =
     let x = layout_at h (global_number h s) in
     let made = (global_made l h s st lt).1 in
     let at : part_at l.parts x ≡ parts.Global s = ap (part_at l.parts) made.layout ∙ found l.file l.parts st.linked.numbering (parts.Global s) lt in
-    let ps = before x (way (base l) (Some x)) in
+    let ps = before x (way (base_layout l) (Some x)) in
     let some = sym (global_traits l h n x s ps st.linked at) ∙ e in
-    let with_text = text_fits l h n x (ps ++ x ∷ []) (traits_from l (slots_under l (base l x)) (script_at l.file s).traits) some in
-    text_in_table l (bytes_eq t) (slots_under l (base l x)) (script_at l.file s).traits (ap (λ (u : List ℕ). list_any (λ (v : Trait). bytes_eq u v.text) (traits_from l (slots_under l (base l x)) (script_at l.file s).traits)) is ∙ with_text)
+    let with_text = text_fits l h n x (ps ++ x ∷ []) (traits_from l (slots_under l (base_layout l x)) (script_at l.file s).traits) some in
+    text_in_table l (bytes_eq t) (slots_under l (base_layout l x)) (script_at l.file s).traits (ap (λ (u : List ℕ). list_any (λ (v : Trait). bytes_eq u v.text) (traits_from l (slots_under l (base_layout l x)) (script_at l.file s).traits)) is ∙ with_text)
 
 -- ---- the scripts that have a trait of the text
 
 abbrev pub owner_at : LinkedFile → ℕ → ℕ
 owner_at l p = get_or (owners_of l.file) p 0
 
-all_owners : (l : LinkedFile) (h : Heap) (n : Name) (t : List ℕ) → StandsOver l h → t ≡ text_in l h n.text
+all_owners : (l : LinkedFile) (h : Heap) (n : Name) (t : List ℕ) → StandsOver l h → t ≡ text_of_span l h n.text
     → find (has l h n) (map InScript (map (owner_at l) (places_of (bytes_eq t) (trait_texts l.file (traits_of_scripts l.file.scripts))))) ≡ find (has l h n) (map InScript (range_with_len 0 (length l.file.scripts)))
 all_owners l h n t st is =
     let ss = l.file.scripts in
@@ -226,11 +226,11 @@ all_owners l h n t st is =
     ap (λ os. find (has l h n) (map InScript os)) (picked_places (bytes_eq t) (map g (traits_of_scripts ss)) [] (owners_from 0 ss) len)
     ∙ first_owner (has l h n) (bytes_eq t) g 0 ss (λ i lt e. let z : 0 + i ≡ i = omega arith in script_tells l h n t i st is lt (ap (λ k. has l h n (InScript k)) (sym z) ∙ e))
 
-pub some_owners : (l : LinkedFile) (h : Heap) (n : Name) (t ps : List ℕ) → StandsOver l h → t ≡ text_in l h n.text → Some ps ≡ script_traits l.file t
+pub some_owners : (l : LinkedFile) (h : Heap) (n : Name) (t ps : List ℕ) → StandsOver l h → t ≡ text_of_span l h n.text → Some ps ≡ script_traits l.file t
     → find (has l h n) (map InScript (map (owner_at l) ps)) ≡ find (has l h n) (map InScript (range_with_len 0 (length l.file.scripts)))
 some_owners l h n t ps st is e = ap (λ qs. find (has l h n) (map InScript (map (owner_at l) qs))) (some_some ps _ e) ∙ all_owners l h n t st is
 
-pub no_owners : (l : LinkedFile) (h : Heap) (n : Name) (t : List ℕ) → StandsOver l h → t ≡ text_in l h n.text → None ≡ script_traits l.file t
+pub no_owners : (l : LinkedFile) (h : Heap) (n : Name) (t : List ℕ) → StandsOver l h → t ≡ text_of_span l h n.text → None ≡ script_traits l.file t
     → None ≡ find (has l h n) (map InScript (range_with_len 0 (length l.file.scripts)))
 no_owners l h n t st is e = ap (λ qs. find (has l h n) (map InScript (map (owner_at l) qs))) (sym (none_none _ e)) ∙ all_owners l h n t st is
 
@@ -253,23 +253,23 @@ owner_is l p o e = go (owners_of l.file) p e
     go (x ∷ xs) zero e = cc
     go (x ∷ xs) (suc i) e = go xs i e
 
-owner_next : (p : Place → Bool) (at : ℕ → ℕ) (ps : List ℕ) (i o : ℕ) → i < length ps → at (get_or ps i 0) ≡ o
+owner_next : (p : ScopePlace → Bool) (at : ℕ → ℕ) (ps : List ℕ) (i o : ℕ) → i < length ps → at (get_or ps i 0) ≡ o
     → find p (map InScript (map at (drop i ps))) ≡ cond (p (InScript o)) (Some (InScript o)) (find p (map InScript (map at (drop (i + 1) ps))))
 owner_next p at ps i o h is =
     let split : drop i ps ≡ get_or ps i 0 ∷ drop (i + 1) ps = rw (add-one, drop-cons ps i 0) refl in
     ap (λ qs. find p (map InScript (map at qs))) split
     ∙ ap (λ k. cond (p (InScript k)) (Some (InScript k)) (find p (map InScript (map at (drop (i + 1) ps))))) is
 
-pub owner_has : (p : Place → Bool) (at : ℕ → ℕ) (ps : List ℕ) (i o : ℕ) (whole : Option Place) → i < length ps → at (get_or ps i 0) ≡ o → find p (map InScript (map at (drop i ps))) ≡ whole → p (InScript o) ≡ true
+pub owner_has : (p : ScopePlace → Bool) (at : ℕ → ℕ) (ps : List ℕ) (i o : ℕ) (whole : Option ScopePlace) → i < length ps → at (get_or ps i 0) ≡ o → find p (map InScript (map at (drop i ps))) ≡ whole → p (InScript o) ≡ true
     → Some (InScript o) ≡ whole
 owner_has p at ps i o whole h is e hit =
     sym (ap (λ b. cond b (Some (InScript o)) (find p (map InScript (map at (drop (i + 1) ps))))) hit) ∙ sym (owner_next p at ps i o h is) ∙ e
 
-pub owner_has_not : (p : Place → Bool) (at : ℕ → ℕ) (ps : List ℕ) (i o : ℕ) (whole : Option Place) → i < length ps → at (get_or ps i 0) ≡ o → find p (map InScript (map at (drop i ps))) ≡ whole → p (InScript o) ≡ false
+pub owner_has_not : (p : ScopePlace → Bool) (at : ℕ → ℕ) (ps : List ℕ) (i o : ℕ) (whole : Option ScopePlace) → i < length ps → at (get_or ps i 0) ≡ o → find p (map InScript (map at (drop i ps))) ≡ whole → p (InScript o) ≡ false
     → find p (map InScript (map at (drop (i + 1) ps))) ≡ whole
 owner_has_not p at ps i o whole h is e miss =
     sym (ap (λ b. cond b (Some (InScript o)) (find p (map InScript (map at (drop (i + 1) ps))))) miss) ∙ sym (owner_next p at ps i o h is) ∙ e
 
-pub tried_not : (p : Place → Bool) (tried : Option ℕ) (o : ℕ) → HasNot p tried → tried ≡ Some o → p (InScript o) ≡ false
+pub tried_not : (p : ScopePlace → Bool) (tried : Option ℕ) (o : ℕ) → HasNot p tried → tried ≡ Some o → p (InScript o) ≡ false
 tried_not p None o h e = cc
 tried_not p (Some s) o h e = let q : s ≡ o = cc in ap (λ k. p (InScript k)) (sym q) ∙ h

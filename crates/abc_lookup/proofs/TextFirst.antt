@@ -11,15 +11,15 @@ use Rattle.abc_heap_store.specs.Heap.{Heap}
 use Rattle.abc_base_graphs.specs.Groups.{places_from, places_of, some_places}
 use Rattle.abc_link_names.specs.Pool.{name, qname, text}
 use Rattle.abc_link_names.specs.declared.named.DefiniteName.{DefiniteName}
-use Rattle.abc_link_names.specs.Linked.{LinkedFile, base}
+use Rattle.abc_link_names.specs.Linked.{LinkedFile, base_layout}
 use Rattle.abc_link_names.specs.Numbering.{part_at}
 use Rattle.abc_link_names.specs.Slots.{handler_at, slots_in, traits_of}
 use Rattle.abc_link_names.specs.declared.part.Part.{Part}
 use Rattle.abc_link_names.specs.declared.part.Part.TheVariants as parts
 use Rattle.abc_link_names.specs.Traits.{own_table_of, own_traits, trait_texts}
-use Rattle.abc_objects.specs.Candidates.{OfTrait, answer, text_in}
+use Rattle.abc_objects.specs.Candidates.{OfTrait, answer_of_search, text_of_span}
 use Rattle.abc_objects.specs.Results.{or_next}
-use Rattle.abc_objects.specs.Spaces.{holds, holds_protected, is_protected}
+use Rattle.abc_objects.specs.Spaces.{holds_trait_space, holds_protected, is_protected}
 use Rattle.abc_objects.specs.Traits.{Trait, caught_trait, members_in, own, own_traits_of, slots_under, trait_named, traits_from, traits_named}
 use Rattle.abc_objects.specs.declared.found.Found.{Found}
 use Rattle.abc_objects.specs.declared.found.Found.TheVariants.{Missing}
@@ -30,45 +30,45 @@ use Rattle.abc_objects.specs.declared.traits.Member.{Member}
 use Rattle.abc_objects.specs.declared.traits.Member.TheVariants as members
 use Rattle.abc_objects.specs.declared.traits.TraitSpace.TheVariants as spaces
 use Rattle.abc_objects.proofs.Joins.{one, answer_none, answer_more, or_assoc, or_missing}
-use Rattle.abc_lookup.specs.Slots.{listed, own_at, slot_count, slot_of, trait_at}
-use Rattle.abc_lookup.specs.Steps.{fits_held, given, gives, member_found, tried, with_text}
+use Rattle.abc_lookup.specs.Slots.{members_of, own_at, slots_in_traits, slot_of, trait_at}
+use Rattle.abc_lookup.specs.Steps.{fits_held, layout_result, gives_found, member_found, trait_result, with_text}
 use Rattle.abc_file_types.specs.declared.traits.TraitInfo.{TraitInfo}
 
 -- ---- the traits with a text, one after the other
 
-pub gives_append : (l : LinkedFile) (n : Name) (s : Skip) (x : ℕ) (held : Bool) (ts us : List Trait) → gives l n s x held (ts ++ us) ≡ or_next (gives l n s x held ts) (gives l n s x held us)
+pub gives_append : (l : LinkedFile) (n : Name) (s : Skip) (x : ℕ) (held : Bool) (ts us : List Trait) → gives_found l n s x held (ts ++ us) ≡ or_next (gives_found l n s x held ts) (gives_found l n s x held us)
 gives_append l n s x held [] us = refl
 gives_append l n s x held (t ∷ ts) us =
-    ap (or_next (tried l n s x held t.declared)) (gives_append l n s x held ts us)
-    ∙ sym (or_assoc (tried l n s x held t.declared) (gives l n s x held ts) (gives l n s x held us))
+    ap (or_next (trait_result l n s x held t.declared)) (gives_append l n s x held ts us)
+    ∙ sym (or_assoc (trait_result l n s x held t.declared) (gives_found l n s x held ts) (gives_found l n s x held us))
 
 -- a trait among the candidates
 one_tried : (l : LinkedFile) (h : Heap) (n : Name) (s : Skip) (x : ℕ) (passed : List ℕ) (held : Bool) (t : Trait) → list_any (holds_protected l n.spaces) passed ≡ held
-    → one l h n s (OfTrait x passed t) ≡ cond (bytes_eq (text_in l h n.text) t.text) (tried l n s x held t.declared) Missing
+    → one l h n s (OfTrait x passed t) ≡ cond (bytes_eq (text_of_span l h n.text) t.text) (trait_result l n s x held t.declared) Missing
 one_tried l h n s x passed held t e =
-    ap (λ b. cond (bytes_eq (text_in l h n.text) t.text && (holds l n.spaces t.declared.space || (is_protected l x t.declared.space && b))) (member_found l s t.declared.member) Missing) e
-    ∙ go (bytes_eq (text_in l h n.text) t.text)
+    ap (λ b. cond (bytes_eq (text_of_span l h n.text) t.text && (holds_trait_space l n.spaces t.declared.space || (is_protected l x t.declared.space && b))) (member_found l s t.declared.member) Missing) e
+    ∙ go (bytes_eq (text_of_span l h n.text) t.text)
   where
-    go : (b : Bool) → cond (b && fits_held l n x held t.declared.space) (member_found l s t.declared.member) Missing ≡ cond b (tried l n s x held t.declared) Missing
+    go : (b : Bool) → cond (b && fits_held l n x held t.declared.space) (member_found l s t.declared.member) Missing ≡ cond b (trait_result l n s x held t.declared) Missing
     go true = refl
     go false = refl
 
 text_first : (l : LinkedFile) (h : Heap) (n : Name) (s : Skip) (x : ℕ) (passed : List ℕ) (held : Bool) (ts : List Trait) → list_any (holds_protected l n.spaces) passed ≡ held
-    → answer l h n s (map (OfTrait x passed) ts) ≡ gives l n s x held (with_text (text_in l h n.text) ts)
+    → answer_of_search l h n s (map (OfTrait x passed) ts) ≡ gives_found l n s x held (with_text (text_of_span l h n.text) ts)
 text_first l h n s x passed held [] e = answer_none l h n s
 text_first l h n s x passed held (t ∷ ts) e =
     answer_more l h n s (OfTrait x passed t) (map (OfTrait x passed) ts)
     ∙ ap (or_next (one l h n s (OfTrait x passed t))) (text_first l h n s x passed held ts e)
-    ∙ ap (λ f. or_next f (gives l n s x held (with_text (text_in l h n.text) ts))) (one_tried l h n s x passed held t e)
-    ∙ go (bytes_eq (text_in l h n.text) t.text)
+    ∙ ap (λ f. or_next f (gives_found l n s x held (with_text (text_of_span l h n.text) ts))) (one_tried l h n s x passed held t e)
+    ∙ go (bytes_eq (text_of_span l h n.text) t.text)
   where
-    go : (b : Bool) → or_next (cond b (tried l n s x held t.declared) Missing) (gives l n s x held (with_text (text_in l h n.text) ts)) ≡ gives l n s x held (cond b (t ∷ with_text (text_in l h n.text) ts) (with_text (text_in l h n.text) ts))
+    go : (b : Bool) → or_next (cond b (trait_result l n s x held t.declared) Missing) (gives_found l n s x held (with_text (text_of_span l h n.text) ts)) ≡ gives_found l n s x held (cond b (t ∷ with_text (text_of_span l h n.text) ts) (with_text (text_of_span l h n.text) ts))
     go true = refl
     go false = refl
 
 pub text_first_of : (l : LinkedFile) (h : Heap) (n : Name) (s : Skip) (x : ℕ) (passed : List ℕ) (held : Bool) → list_any (holds_protected l n.spaces) passed ≡ held
-    → answer l h n s (map (OfTrait x passed) (own l x)) ≡ given l (text_in l h n.text) n s x held
-unfolding given
+    → answer_of_search l h n s (map (OfTrait x passed) (own l x)) ≡ layout_result l (text_of_span l h n.text) n s x held
+unfolding layout_result
 text_first_of l h n s x passed held e = text_first l h n s x passed held (own l x) e
 
 -- ---- the traits of a table, by their places
@@ -108,8 +108,8 @@ placed l t at i slot (u ∷ ts) h =
     go rest true = ap (λ us. us ++ flat_map at (places_from (bytes_eq t) (i + 1) (trait_texts l.file ts))) first ∙ ap (λ us. traits_named l (qname (name l.file u.name)) (members_in slot u.body) ++ us) rest
     go rest false = rest
 
-placed_all : (l : LinkedFile) (t : List ℕ) (x : ℕ) → flat_map (own_at l x) (places_of (bytes_eq t) (trait_texts l.file (own_table_of l x))) ≡ with_text t (traits_from l (slots_under l (base l x)) (own_table_of l x))
-placed_all l t x = placed l t (own_at l x) 0 (slots_under l (base l x)) (own_table_of l x) (λ j. let e : 0 + j ≡ j = omega arith in ap (own_at l x) e)
+placed_all : (l : LinkedFile) (t : List ℕ) (x : ℕ) → flat_map (own_at l x) (places_of (bytes_eq t) (trait_texts l.file (own_table_of l x))) ≡ with_text t (traits_from l (slots_under l (base_layout l x)) (own_table_of l x))
+placed_all l t x = placed l t (own_at l x) 0 (slots_under l (base_layout l x)) (own_table_of l x) (λ j. let e : 0 + j ≡ j = omega arith in ap (own_at l x) e)
 
 pub some_some : (ps qs : List ℕ) → Some ps ≡ some_places qs → ps ≡ qs
 some_some ps [] e = cc
@@ -121,12 +121,12 @@ none_none (q ∷ qs) e = cc
 
 -- what the linker answers for a text
 pub some_there : (l : LinkedFile) (n : Name) (s : Skip) (x : ℕ) (held : Bool) (t ps : List ℕ) → Some ps ≡ own_traits l x t
-    → gives l n s x held (flat_map (own_at l x) ps) ≡ gives l n s x held (with_text t (traits_from l (slots_under l (base l x)) (own_table_of l x)))
-some_there l n s x held t ps e = ap (λ qs. gives l n s x held (flat_map (own_at l x) qs)) (some_some ps _ e) ∙ ap (gives l n s x held) (placed_all l t x)
+    → gives_found l n s x held (flat_map (own_at l x) ps) ≡ gives_found l n s x held (with_text t (traits_from l (slots_under l (base_layout l x)) (own_table_of l x)))
+some_there l n s x held t ps e = ap (λ qs. gives_found l n s x held (flat_map (own_at l x) qs)) (some_some ps _ e) ∙ ap (gives_found l n s x held) (placed_all l t x)
 
 pub none_there : (l : LinkedFile) (n : Name) (s : Skip) (x : ℕ) (held : Bool) (t : List ℕ) → None ≡ own_traits l x t
-    → Missing ≡ gives l n s x held (with_text t (traits_from l (slots_under l (base l x)) (own_table_of l x)))
-none_there l n s x held t e = ap (λ qs. gives l n s x held (flat_map (own_at l x) qs)) (sym (none_none _ e)) ∙ ap (gives l n s x held) (placed_all l t x)
+    → Missing ≡ gives_found l n s x held (with_text t (traits_from l (slots_under l (base_layout l x)) (own_table_of l x)))
+none_there l n s x held t e = ap (λ qs. gives_found l n s x held (flat_map (own_at l x) qs)) (sym (none_none _ e)) ∙ ap (gives_found l n s x held) (placed_all l t x)
 
 -- each place is one of a trait
 pub places_below : {K : Type 0} (t : K → Bool) (n : ℕ) (ks : List K) (i p : ℕ) → slice_get (places_from t n ks) i ≡ Some p → p < n + length ks
@@ -154,37 +154,37 @@ places_there l x t ps e i h =
 -- ---- the trait at a place
 
 pub at_place : (l : LinkedFile) (slot : ℕ) (ts : List TraitInfo) (p : ℕ) (t : TraitInfo) → p < length ts → get_or ts p t ≡ t
-    → trait_at l slot ts p ≡ traits_named l (qname (name l.file t.name)) (members_in (slot + slot_count l (take p ts)) t.body)
+    → trait_at l slot ts p ≡ traits_named l (qname (name l.file t.name)) (members_in (slot + slots_in_traits l (take p ts)) t.body)
 at_place l slot [] p t h e = absurd (omega arith)
 at_place l slot (u ∷ ts) zero t h e =
     let z : slot ≡ slot + 0 = omega arith in
     ap (λ (v : TraitInfo). traits_named l (qname (name l.file v.name)) (members_in slot v.body)) e ∙ ap (λ k. traits_named l (qname (name l.file t.name)) (members_in k t.body)) z
 at_place l slot (u ∷ ts) (suc p) t h e =
-    let z : slot + length (slots_in l u.body) + slot_count l (take p ts) ≡ slot + slot_count l (take (suc p) (u ∷ ts)) = omega (arith, length-append (slots_in l u.body) (flat_map (λ (v : TraitInfo). slots_in l v.body) (take p ts))) in
+    let z : slot + length (slots_in l u.body) + slots_in_traits l (take p ts) ≡ slot + slots_in_traits l (take (suc p) (u ∷ ts)) = omega (arith, length-append (slots_in l u.body) (flat_map (λ (v : TraitInfo). slots_in l v.body) (take p ts))) in
     at_place l (slot + length (slots_in l u.body)) ts p t (omega arith) e ∙ ap (λ k. traits_named l (qname (name l.file t.name)) (members_in k t.body)) z
 
 pub place_is : (l : LinkedFile) (x p : ℕ) (ts : List TraitInfo) (t : TraitInfo) (d : DefiniteName) → ts ≡ own_table_of l x → p < length (own_table_of l x) → t ≡ get_or ts p t → d ≡ qname (name l.file t.name)
     → own_at l x p ≡ traits_named l d (members_in (slot_of l x p) t.body)
 place_is l x p ts t d is h e ed =
-    at_place l (slots_under l (base l x)) (own_table_of l x) p t h (sym (e ∙ ap (λ (us : List TraitInfo). get_or us p t) is))
+    at_place l (slots_under l (base_layout l x)) (own_table_of l x) p t h (sym (e ∙ ap (λ (us : List TraitInfo). get_or us p t) is))
     ∙ ap (λ c. traits_named l c (members_in (slot_of l x p) t.body)) (sym ed)
 
 -- a trait whose namespace doesn't fit, one that fits, and none
-pub unfit : (l : LinkedFile) (n : Name) (s : Skip) (x : ℕ) (held : Bool) (d : DefiniteName) (ms : List Member) → fits_held l n x held (spaces.Pool d.ns) ≡ false → Missing ≡ gives l n s x held (traits_named l d ms)
+pub unfit : (l : LinkedFile) (n : Name) (s : Skip) (x : ℕ) (held : Bool) (d : DefiniteName) (ms : List Member) → fits_held l n x held (spaces.Pool d.ns) ≡ false → Missing ≡ gives_found l n s x held (traits_named l d ms)
 unfit l n s x held d [] e = refl
-unfit l n s x held d (m ∷ ms) e = unfit l n s x held d ms e ∙ ap (λ b. or_next (cond b (member_found l s m) Missing) (gives l n s x held (traits_named l d ms))) (sym e)
+unfit l n s x held d (m ∷ ms) e = unfit l n s x held d ms e ∙ ap (λ b. or_next (cond b (member_found l s m) Missing) (gives_found l n s x held (traits_named l d ms))) (sym e)
 
-pub fit : (l : LinkedFile) (n : Name) (s : Skip) (x : ℕ) (held : Bool) (d : DefiniteName) (m : Member) (ms : List Member) → fits_held l n x held (spaces.Pool d.ns) ≡ true → listed (Some m) ≡ ms → member_found l s m ≡ gives l n s x held (traits_named l d ms)
+pub fit : (l : LinkedFile) (n : Name) (s : Skip) (x : ℕ) (held : Bool) (d : DefiniteName) (m : Member) (ms : List Member) → fits_held l n x held (spaces.Pool d.ns) ≡ true → members_of (Some m) ≡ ms → member_found l s m ≡ gives_found l n s x held (traits_named l d ms)
 fit l n s x held d m ms e is =
-    sym (or_missing (member_found l s m)) ∙ ap (λ b. or_next (cond b (member_found l s m) Missing) Missing) (sym e) ∙ ap (λ us. gives l n s x held (traits_named l d us)) is
+    sym (or_missing (member_found l s m)) ∙ ap (λ b. or_next (cond b (member_found l s m) Missing) Missing) (sym e) ∙ ap (λ us. gives_found l n s x held (traits_named l d us)) is
 
-pub unlisted : (l : LinkedFile) (n : Name) (s : Skip) (x : ℕ) (held : Bool) (d : DefiniteName) (ms : List Member) → listed None ≡ ms → Missing ≡ gives l n s x held (traits_named l d ms)
-unlisted l n s x held d ms is = ap (λ us. gives l n s x held (traits_named l d us)) is
+pub unlisted : (l : LinkedFile) (n : Name) (s : Skip) (x : ℕ) (held : Bool) (d : DefiniteName) (ms : List Member) → members_of None ≡ ms → Missing ≡ gives_found l n s x held (traits_named l d ms)
+unlisted l n s x held d ms is = ap (λ us. gives_found l n s x held (traits_named l d us)) is
 
 -- ---- one trait of a text
 
-pub named_hit : (l : LinkedFile) (n : Name) (s : Skip) (x : ℕ) (held : Bool) (t named : List ℕ) (d : Declared) → bytes_eq t named ≡ true → tried l n s x held d ≡ gives l n s x held (with_text t (record { text = named; declared = d } ∷ []))
-named_hit l n s x held t named d e = sym (or_missing (tried l n s x held d)) ∙ ap (λ b. gives l n s x held (cond b (record { text = named; declared = d } ∷ []) [])) (sym e)
+pub named_hit : (l : LinkedFile) (n : Name) (s : Skip) (x : ℕ) (held : Bool) (t named : List ℕ) (d : Declared) → bytes_eq t named ≡ true → trait_result l n s x held d ≡ gives_found l n s x held (with_text t (record { text = named; declared = d } ∷ []))
+named_hit l n s x held t named d e = sym (or_missing (trait_result l n s x held d)) ∙ ap (λ b. gives_found l n s x held (cond b (record { text = named; declared = d } ∷ []) [])) (sym e)
 
 pub not_false : (b : Bool) → not b ≡ false → b ≡ true
 not_false true e = refl
@@ -192,32 +192,32 @@ not_false false e = cc
 
 -- ---- the layouts without a table
 
-pub prototype_given : (l : LinkedFile) (t : List ℕ) (n : Name) (s : Skip) (x : ℕ) (held : Bool) (slot : ℕ) (f : Found) → part_at l.parts x ≡ parts.Host hosts.Class → slot ≡ slots_under l (base l x)
-    → f ≡ gives l n s x held (with_text t (record { text = codes "prototype"; declared = record { space = spaces.Public; member = members.Slot slot true } } ∷ [])) → f ≡ given l t n s x held
-unfolding given
+pub prototype_given : (l : LinkedFile) (t : List ℕ) (n : Name) (s : Skip) (x : ℕ) (held : Bool) (slot : ℕ) (f : Found) → part_at l.parts x ≡ parts.Host hosts.Class → slot ≡ slots_under l (base_layout l x)
+    → f ≡ gives_found l n s x held (with_text t (record { text = codes "prototype"; declared = record { space = spaces.Public; member = members.Slot slot true } } ∷ [])) → f ≡ layout_result l t n s x held
+unfolding layout_result
 prototype_given l t n s x held slot f part is e =
     e
-    ∙ ap (λ k. gives l n s x held (with_text t (own_traits_of l k (parts.Host hosts.Class)))) is
-    ∙ ap (λ p. gives l n s x held (with_text t (own_traits_of l (slots_under l (base l x)) p))) (sym part)
+    ∙ ap (λ k. gives_found l n s x held (with_text t (own_traits_of l k (parts.Host hosts.Class)))) is
+    ∙ ap (λ p. gives_found l n s x held (with_text t (own_traits_of l (slots_under l (base_layout l x)) p))) (sym part)
 
-pub caught_none : (l : LinkedFile) (t : List ℕ) (n : Name) (s : Skip) (x : ℕ) (held : Bool) (b e var : ℕ) → part_at l.parts x ≡ parts.Catch b e → var ≡ (handler_at l.file b e).var_name → var ≡ 0 → Missing ≡ given l t n s x held
-unfolding given
+pub caught_none : (l : LinkedFile) (t : List ℕ) (n : Name) (s : Skip) (x : ℕ) (held : Bool) (b e var : ℕ) → part_at l.parts x ≡ parts.Catch b e → var ≡ (handler_at l.file b e).var_name → var ≡ 0 → Missing ≡ layout_result l t n s x held
+unfolding layout_result
 caught_none l t n s x held b e var part is none =
-    ap (λ k. gives l n s x held (with_text t (caught_trait l (slots_under l (base l x)) k))) (sym none ∙ is)
-    ∙ ap (λ p. gives l n s x held (with_text t (own_traits_of l (slots_under l (base l x)) p))) (sym part)
+    ap (λ k. gives_found l n s x held (with_text t (caught_trait l (slots_under l (base_layout l x)) k))) (sym none ∙ is)
+    ∙ ap (λ p. gives_found l n s x held (with_text t (own_traits_of l (slots_under l (base_layout l x)) p))) (sym part)
 
 pub caught_given : (l : LinkedFile) (t : List ℕ) (n : Name) (s : Skip) (x : ℕ) (held : Bool) (b e var slot : ℕ) (d : DefiniteName) (named : List ℕ) (f : Found)
-    → part_at l.parts x ≡ parts.Catch b e → var ≡ (handler_at l.file b e).var_name → (var ≡ 0 → ⊥) → slot ≡ slots_under l (base l x) → d ≡ qname (name l.file var) → named ≡ text l.file d.string
-    → f ≡ gives l n s x held (with_text t (record { text = named; declared = record { space = spaces.Pool d.ns; member = members.Slot slot false } } ∷ [])) → f ≡ given l t n s x held
-unfolding given
+    → part_at l.parts x ≡ parts.Catch b e → var ≡ (handler_at l.file b e).var_name → (var ≡ 0 → ⊥) → slot ≡ slots_under l (base_layout l x) → d ≡ qname (name l.file var) → named ≡ text l.file d.string
+    → f ≡ gives_found l n s x held (with_text t (record { text = named; declared = record { space = spaces.Pool d.ns; member = members.Slot slot false } } ∷ [])) → f ≡ layout_result l t n s x held
+unfolding layout_result
 caught_given l t n s x held b e var slot d named f part is some is_slot is_name is_text ef =
     ef
-    ∙ ap (λ u. gives l n s x held (with_text t (record { text = u; declared = record { space = spaces.Pool d.ns; member = members.Slot slot false } } ∷ []))) is_text
-    ∙ ap (λ c. gives l n s x held (with_text t (trait_named l c (members.Slot slot false) ∷ []))) is_name
-    ∙ ap (λ k. gives l n s x held (with_text t (trait_named l (qname (name l.file var)) (members.Slot k false) ∷ []))) is_slot
-    ∙ ap (λ q. gives l n s x held (with_text t (cond q [] (trait_named l (qname (name l.file var)) (members.Slot (slots_under l (base l x)) false) ∷ [])))) (sym (ne_eqb var 0 some))
-    ∙ ap (λ k. gives l n s x held (with_text t (caught_trait l (slots_under l (base l x)) k))) is
-    ∙ ap (λ p. gives l n s x held (with_text t (own_traits_of l (slots_under l (base l x)) p))) (sym part)
+    ∙ ap (λ u. gives_found l n s x held (with_text t (record { text = u; declared = record { space = spaces.Pool d.ns; member = members.Slot slot false } } ∷ []))) is_text
+    ∙ ap (λ c. gives_found l n s x held (with_text t (trait_named l c (members.Slot slot false) ∷ []))) is_name
+    ∙ ap (λ k. gives_found l n s x held (with_text t (trait_named l (qname (name l.file var)) (members.Slot k false) ∷ []))) is_slot
+    ∙ ap (λ q. gives_found l n s x held (with_text t (cond q [] (trait_named l (qname (name l.file var)) (members.Slot (slots_under l (base_layout l x)) false) ∷ [])))) (sym (ne_eqb var 0 some))
+    ∙ ap (λ k. gives_found l n s x held (with_text t (caught_trait l (slots_under l (base_layout l x)) k))) is
+    ∙ ap (λ p. gives_found l n s x held (with_text t (own_traits_of l (slots_under l (base_layout l x)) p))) (sym part)
 
 -- those with one
 is_table : (l : LinkedFile) (slot : ℕ) (p : Part) → (p ≡ parts.Host hosts.Class → ⊥) → ((b e : ℕ) → p ≡ parts.Catch b e → ⊥) → own_traits_of l slot p ≡ traits_from l slot (traits_of l.file p)
@@ -226,12 +226,12 @@ is_table l slot (parts.Catch b e) no_class no_catch = absurd (no_catch b e refl)
 is_table l slot p no_class no_catch = refl
 
 pub table_given : (l : LinkedFile) (t : List ℕ) (n : Name) (s : Skip) (x : ℕ) (held : Bool) (f : Found) → (part_at l.parts x ≡ parts.Host hosts.Class → ⊥) → ((b e : ℕ) → part_at l.parts x ≡ parts.Catch b e → ⊥)
-    → f ≡ gives l n s x held (with_text t (traits_from l (slots_under l (base l x)) (own_table_of l x))) → f ≡ given l t n s x held
-unfolding given
-table_given l t n s x held f no_class no_catch e = e ∙ ap (λ us. gives l n s x held (with_text t us)) (sym (is_table l (slots_under l (base l x)) (part_at l.parts x) no_class no_catch))
+    → f ≡ gives_found l n s x held (with_text t (traits_from l (slots_under l (base_layout l x)) (own_table_of l x))) → f ≡ layout_result l t n s x held
+unfolding layout_result
+table_given l t n s x held f no_class no_catch e = e ∙ ap (λ us. gives_found l n s x held (with_text t us)) (sym (is_table l (slots_under l (base_layout l x)) (part_at l.parts x) no_class no_catch))
 
 pub host_table : (l : LinkedFile) (t : List ℕ) (n : Name) (s : Skip) (x : ℕ) (held : Bool) (c : HostClass) (f : Found) → part_at l.parts x ≡ parts.Host c → (c ≡ hosts.Class → ⊥)
-    → f ≡ gives l n s x held (with_text t (traits_from l (slots_under l (base l x)) (own_table_of l x))) → f ≡ given l t n s x held
+    → f ≡ gives_found l n s x held (with_text t (traits_from l (slots_under l (base_layout l x)) (own_table_of l x))) → f ≡ layout_result l t n s x held
 host_table l t n s x held c f is other e = table_given l t n s x held f (λ q. let r : parts.Host c ≡ parts.Host hosts.Class = sym is ∙ q in let k : c ≡ hosts.Class = cc in other k) (λ b h q. let r : parts.Host c ≡ parts.Catch b h = sym is ∙ q in cc) e
 
 -- ---- the loop over places
@@ -240,18 +240,18 @@ host_table l t n s x held c f is other e = table_given l t n s x held f (λ q. l
 pub only_inside : (ps : List ℕ) (p n : ℕ) → ps ≡ p ∷ [] → ((i : ℕ) → i < length ps → get_or ps i 0 < n) → p < n
 only_inside ps p n e h = subst (λ (qs : List ℕ). get_or qs 0 0 < n) e (h 0 (omega (arith, ap length e)))
 
-pub only_given : (l : LinkedFile) (n : Name) (s : Skip) (x : ℕ) (held : Bool) (at : ℕ → List Trait) (ps : List ℕ) (p : ℕ) → ps ≡ p ∷ [] → gives l n s x held (at p) ≡ gives l n s x held (flat_map at ps)
-only_given l n s x held at ps p e = ap (gives l n s x held) (sym (append-nil (at p))) ∙ sym (ap (λ (qs : List ℕ). gives l n s x held (flat_map at qs)) e)
+pub only_given : (l : LinkedFile) (n : Name) (s : Skip) (x : ℕ) (held : Bool) (at : ℕ → List Trait) (ps : List ℕ) (p : ℕ) → ps ≡ p ∷ [] → gives_found l n s x held (at p) ≡ gives_found l n s x held (flat_map at ps)
+only_given l n s x held at ps p e = ap (gives_found l n s x held) (sym (append-nil (at p))) ∙ sym (ap (λ (qs : List ℕ). gives_found l n s x held (flat_map at qs)) e)
 
 -- what was found, and then what the place gives and the rest gives, is what all give
 pub place_next : (l : LinkedFile) (n : Name) (s : Skip) (x : ℕ) (held : Bool) (at : ℕ → List Trait) (ps : List ℕ) (i : ℕ) (so_far found next whole : Found) → i < length ps
-    → or_next so_far (gives l n s x held (flat_map at (drop i ps))) ≡ whole → found ≡ gives l n s x held (at (get_or ps i 0)) → next ≡ or_next so_far found
-    → or_next next (gives l n s x held (flat_map at (drop (i + 1) ps))) ≡ whole
+    → or_next so_far (gives_found l n s x held (flat_map at (drop i ps))) ≡ whole → found ≡ gives_found l n s x held (at (get_or ps i 0)) → next ≡ or_next so_far found
+    → or_next next (gives_found l n s x held (flat_map at (drop (i + 1) ps))) ≡ whole
 place_next l n s x held at ps i so_far found next whole h e is ns =
-    let r = gives l n s x held (flat_map at (drop (i + 1) ps)) in
+    let r = gives_found l n s x held (flat_map at (drop (i + 1) ps)) in
     let split : drop i ps ≡ get_or ps i 0 ∷ drop (i + 1) ps = rw (add-one, drop-cons ps i 0) refl in
     ap (λ f. or_next f r) ns ∙ or_assoc so_far found r
     ∙ ap (λ f. or_next so_far (or_next f r)) is
     ∙ ap (or_next so_far) (sym (gives_append l n s x held (at (get_or ps i 0)) (flat_map at (drop (i + 1) ps))))
-    ∙ ap (λ qs. or_next so_far (gives l n s x held (flat_map at qs))) (sym split)
+    ∙ ap (λ qs. or_next so_far (gives_found l n s x held (flat_map at qs))) (sym split)
     ∙ e

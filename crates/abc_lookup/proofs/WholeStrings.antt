@@ -3,7 +3,7 @@ use Rattle.std.proofs.Common.{◌≡◌, ℕ, zero, suc, ◌-◌, ◌≤◌, Lis
 use Rattle.std.proofs.lemmas.List.{take_all}
 use Rattle.abc_heap_values.specs.declared.values.Span.{Span}
 use Rattle.abc_heap_store.specs.Heap.{Heap}
-use Rattle.abc_heap_store.specs.Texts.{part_of, pool_text, text_of}
+use Rattle.abc_heap_store.specs.Texts.{part_of_text, pool_text, text_of}
 use Rattle.abc_base_graphs.specs.Texts.{texts_of}
 use Rattle.abc_lookup.specs.WholeStrings.{IsWholeString}
 
@@ -16,7 +16,7 @@ whole_string pool h s is =
     let i = s.part - 2 in
     let part : s.part ≡ suc (suc i) = omega (arith, is.of_file) in
     let end : length (pool_text pool i) ≤ s.len = omega (arith, is.end) in
-    ap (λ p. take s.len (drop s.start (part_of h.fixed h.made pool p))) part
+    ap (λ p. take s.len (drop s.start (part_of_text h.fixed h.made pool p))) part
     ∙ ap (λ k. take s.len (drop k (pool_text pool i))) is.start
     ∙ take_all s.len (pool_text pool i) end
     ∙ pool_is pool i

@@ -11,15 +11,15 @@ use Rattle.abc_lookup.specs.declared.elements.ElementName.TheVariants as variant
 use Rattle.abc_link_names.specs.Linked.{LinkedFile}
 use Rattle.abc_objects.specs.ElementNames.{ElementName, IsLength, IsNumber, element_name}
 
-abbrev pub element_of : declared.ElementName → ElementName
-element_of variants.Length = IsLength
-element_of (variants.Number k) = IsNumber k
+abbrev pub element_name_of : declared.ElementName → ElementName
+element_name_of variants.Length = IsLength
+element_name_of (variants.Number k) = IsNumber k
 
 -- the element name that code answers, if it answers one
 abbrev pub element_in : Option declared.ElementName → Option ElementName
 element_in None = None
-element_in (Some e) = Some (element_of e)
+element_in (Some e) = Some (element_name_of e)
 
 -- only arrays have elements
-abbrev pub element_on : LinkedFile → Heap → ObjId → Span → Option ElementName
-element_on l h o text = if is_array (object_at h.objects o.0).what then element_name (text_of l.file.strings h text) else None
+abbrev pub element_name_on : LinkedFile → Heap → ObjId → Span → Option ElementName
+element_name_on l h o text = if is_array (object_at h.objects o.0).what then element_name (text_of l.file.strings h text) else None

@@ -10,7 +10,7 @@ use Rattle.abc_link_names.specs.declared.part.Part.{Part}
 use Rattle.abc_link_names.specs.declared.part.Part.TheVariants as parts
 use Rattle.abc_objects.specs.Candidates.{layout_at, traits}
 use Rattle.abc_objects.specs.Searches.{found_on}
-use Rattle.abc_objects.specs.Spaces.{holds_public}
+use Rattle.abc_objects.specs.Spaces.{name_holds_public}
 use Rattle.abc_objects.specs.declared.found.Found.{Found}
 use Rattle.abc_objects.specs.declared.found.Found.TheVariants.{Missing}
 use Rattle.abc_objects.specs.declared.found.Want.{Want}
@@ -31,11 +31,11 @@ abbrev pub HasNoTraits : LinkedFile → ℕ → Type 0
 HasNoTraits l x = (object : ℕ) → traits l object x ≡ []
 
 -- the object has none, and the name holds the public namespace or any
-pub record IsPlain (l : LinkedFile) (h : Heap) (o : ObjId) (n : Name) : Type 0 where
+pub record IsWithoutTraits (l : LinkedFile) (h : Heap) (o : ObjId) (n : Name) : Type 0 where
   pub bare : HasNoTraits l (layout_at h o.0)
-  pub public : holds_public l n.spaces ≡ true
+  pub public : name_holds_public l n.spaces ≡ true
 
 -- what is found at once, if anything, is what every search finds
-abbrev pub IsFirst : LinkedFile → Heap → ObjId → Name → Found → Type 0
-IsFirst l h o n Missing = Unit {0}
-IsFirst l h o n found = (want : Want) → found ≡ found_on l h (Obj o) n want
+abbrev pub IsFoundFirst : LinkedFile → Heap → ObjId → Name → Found → Type 0
+IsFoundFirst l h o n Missing = Unit {0}
+IsFoundFirst l h o n found = (want : Want) → found ≡ found_on l h (Obj o) n want

@@ -3,14 +3,14 @@ ghost use Rattle.std.specs.Str.{bytes_eq};
 ghost use Rattle.abc_heap_store.specs.Texts.{IsText};
 ghost use Rattle.abc_base_graphs.specs.Index.{first};
 ghost use Rattle.abc_base_graphs.specs.Texts.{texts_of};
-ghost use Rattle.abc_lookup.specs.NoTraits.{IsFirst};
-ghost use Rattle.abc_lookup.specs.OwnTraits.{Gives, HasTable, own_named};
+ghost use Rattle.abc_lookup.specs.NoTraits.{IsFoundFirst};
+ghost use Rattle.abc_lookup.specs.OwnTraits.{GivesMember, HasTable, own_named};
 ghost use Rattle.abc_lookup.specs.Slots.{own_at};
 ghost use Rattle.abc_objects.specs.Stands.{StandsOver};
 ghost use Rattle.abc_objects.specs.Values.{IsObject};
 ghost use Rattle.abc_link_names.specs.Linked.{IsLayout};
 ghost use Rattle.abc_link_names.specs.Numbering.{part_at};
-ghost use Rattle.abc_objects.specs.Candidates.{layout_at, text_in};
+ghost use Rattle.abc_objects.specs.Candidates.{layout_at, text_of_span};
 ghost use Rattle.abc_link_names.specs.Traits.{own_table_of, own_traits};
 ghost use Rattle.abc_link_names.specs.declared.types.Owner.{Owner};
 ghost use Rattle.abc_objects.specs.declared.found.Found.TheVariants.{Method};
@@ -39,7 +39,7 @@ fn has_just(spaces: Spaces, space: u32) -> bool
 fn member_here(l: &Linked, x: LayoutId, name: &Name, place: u32) -> Option<Member>
     requires layout { IsLayout l.now x }
     requires place { place < length (own_table_of l.now x.0) }
-    ensures { MatchOption result (Unit {0}) (Gives l.now name.now x.0 (own_at l.now x.0 place)) }
+    ensures { MatchOption result (Unit {0}) (GivesMember l.now name.now x.0 (own_at l.now x.0 place)) }
 {
     let info = &own_table(l, x)[place as usize];
     let space = qname_at(l.abc(), info.name).ns;
@@ -53,8 +53,9 @@ fn member_here(l: &Linked, x: LayoutId, name: &Name, place: u32) -> Option<Membe
 #[inline(always)]
 fn only_member(l: &Linked, a: &Arena, x: LayoutId, name: &Name, places: &[u32]) -> Option<Member>
     requires layout { IsLayout l.now x }
-    requires places { Some places.now ≡ own_traits l.now x.0 (text_in l.now a.now name.now.text) }
-    ensures { MatchOption result (Unit {0}) (Gives l.now name.now x.0 (own_named l.now a.now x.0 name.now)) }
+    requires places { Some places.now ≡ own_traits l.now x.0 (text_of_span l.now a.now name.now.text) }
+    ensures { MatchOption result (Unit {0})
+        (GivesMember l.now name.now x.0 (own_named l.now a.now x.0 name.now)) }
 {
     let _ = a;
     match only_of(places) {
@@ -67,8 +68,10 @@ fn only_member(l: &Linked, a: &Arena, x: LayoutId, name: &Name, places: &[u32]) 
 #[inline(always)]
 fn numbered_member(l: &Linked, a: &Arena, x: LayoutId, name: &Name, number: u32) -> Option<Member>
     requires layout { IsLayout l.now x }
-    requires number { first (bytes_eq (text_in l.now a.now name.now.text)) (texts_of l.now.file.strings) ≡ Some number }
-    ensures { MatchOption result (Unit {0}) (Gives l.now name.now x.0 (own_named l.now a.now x.0 name.now)) }
+    requires number { first (bytes_eq (text_of_span l.now a.now name.now.text)) (texts_of l.now.file.strings)
+        ≡ Some number }
+    ensures { MatchOption result (Unit {0})
+        (GivesMember l.now name.now x.0 (own_named l.now a.now x.0 name.now)) }
 {
     match l.own_numbered(x, Some(number)) {
         Some(places) => only_member(l, a, x, name, places.as_slice()),
@@ -80,7 +83,8 @@ fn numbered_member(l: &Linked, a: &Arena, x: LayoutId, name: &Name, number: u32)
 #[inline(always)]
 fn own_member(l: &Linked, a: &Arena, x: LayoutId, name: &Name) -> Option<Member>
     requires { IsLayout l.now x }
-    ensures { MatchOption result (Unit {0}) (Gives l.now name.now x.0 (own_named l.now a.now x.0 name.now)) }
+    ensures { MatchOption result (Unit {0})
+        (GivesMember l.now name.now x.0 (own_named l.now a.now x.0 name.now)) }
 {
     match whole_number(l, name.text) {
         Some(number) => numbered_member(l, a, x, name, number),
@@ -93,8 +97,8 @@ fn own_member(l: &Linked, a: &Arena, x: LayoutId, name: &Name) -> Option<Member>
 fn first_as(l: &Linked, a: &Arena, o: ObjId, x: LayoutId, name: &Name, member: Member) -> Found
     requires part { HasTable (part_at l.now.parts x.0) }
     requires layout { x.0 ≡ layout_at a.now o.0 }
-    requires member { Gives l.now name.now x.0 (own_named l.now a.now x.0 name.now) member }
-    ensures { IsFirst l.now a.now o name.now result }
+    requires member { GivesMember l.now name.now x.0 (own_named l.now a.now x.0 name.now) member }
+    ensures { IsFoundFirst l.now a.now o name.now result }
 {
     l.linked_law();
     let _ = a;
@@ -130,7 +134,7 @@ pub(crate) fn first_of_traits(l: &Linked, a: &Arena, o: ObjId, name: &Name) -> F
     requires over { StandsOver l.now a.now }
     requires holder { IsObject a.now o }
     requires name { IsText l.now.file.strings a.now name.now.text }
-    ensures { IsFirst l.now a.now o name.now result }
+    ensures { IsFoundFirst l.now a.now o name.now result }
 {
     let x = a.layout(o);
     if !has_table(l.part_of(x)) {
@@ -148,7 +152,8 @@ pub fn first_method(l: &Linked, a: &Arena, o: ObjId, name: &Name) -> Option<u32>
     requires over { StandsOver l.now a.now }
     requires holder { IsObject a.now o }
     requires name { IsText l.now.file.strings a.now name.now.text }
-    ensures { MatchOption result (Unit {0}) (λ m. (owner : Owner) × IsFirst l.now a.now o name.now (Method owner m)) }
+    ensures { MatchOption result (Unit {0})
+        (λ m. (owner : Owner) × IsFoundFirst l.now a.now o name.now (Method owner m)) }
 {
     let found = first_of_traits(l, a, o, name);
     match found {

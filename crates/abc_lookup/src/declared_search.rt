@@ -1,14 +1,14 @@
 ghost use Rattle.std.specs.Prelude.{◌≡◌, ◌<◌, ◌^◌, ◌||◌, ◌∷◌, [], ℕ, Some, MatchOption, get_or, length};
 ghost use Rattle.std.specs.List.{flat_map, list_any};
 ghost use Rattle.abc_base.specs.declared.names.HostClass.TheVariants as hosts;
-ghost use Rattle.abc_base_graphs.specs.Ways.{IsBelow, before, way};
+ghost use Rattle.abc_base_graphs.specs.Ways.{IsPlaceBelow, before, way};
 ghost use Rattle.abc_lookup.specs.Slots.{own_at};
-ghost use Rattle.abc_lookup.specs.Steps.{along, fits_held, layout_number, given, gives, member_found, tried, with_text};
-ghost use Rattle.abc_link_names.specs.Linked.{IsLayout, base};
+ghost use Rattle.abc_lookup.specs.Steps.{along, fits_held, layout_number, layout_result, gives_found, member_found, trait_result, with_text};
+ghost use Rattle.abc_link_names.specs.Linked.{IsLayout, base_layout};
 ghost use Rattle.abc_link_names.specs.Numbering.{part_at};
 ghost use Rattle.abc_link_names.specs.Traits.{own_table_of};
 ghost use Rattle.abc_link_names.specs.declared.part.Part.TheVariants as parts;
-ghost use Rattle.abc_objects.specs.Candidates.{answer, found_as, traits};
+ghost use Rattle.abc_objects.specs.Candidates.{answer_of_search, found_as, traits};
 ghost use Rattle.abc_objects.specs.Results.{or_next};
 ghost use Rattle.abc_objects.specs.Spaces.{holds_protected as does_hold_protected};
 ghost use Rattle.abc_objects.specs.Traits.{slots_under as slots_below, traits_from};
@@ -84,7 +84,7 @@ impl Query<'_> {
     /// What a trait that has the text gives.
     fn try_declared(&self, x: LayoutId, held: bool, declared: Declared) -> Found
         requires { IsLayout self.now.l.now x }
-        ensures { result ≡ tried self.now.l.now self.now.name self.now.skip x.0 held declared }
+        ensures { result ≡ trait_result self.now.l.now self.now.name self.now.skip x.0 held declared }
     {
         if !self.fits(x, held, declared.space) {
             return Found::Missing;
@@ -95,7 +95,9 @@ impl Query<'_> {
     /// What a trait of a text gives.
     fn try_named(&self, x: LayoutId, held: bool, text: &[u8], declared: Declared) -> Found
         requires { IsLayout self.now.l.now x }
-        ensures { result ≡ gives self.now.l.now self.now.name self.now.skip x.0 held (with_text self.now.text.now (record { text = text.now; declared = declared } ∷ [])) }
+        ensures { result
+            ≡ gives_found self.now.l.now self.now.name self.now.skip x.0 held
+            (with_text self.now.text.now (record { text = text.now; declared = declared } ∷ [])) }
     {
         if self.text != text {
             return Found::Missing;
@@ -106,9 +108,10 @@ impl Query<'_> {
     /// What the slot `prototype` of a class object gives.
     fn find_prototype(&self, x: LayoutId, held: bool) -> Found
         requires layout { IsLayout self.now.l.now x }
-        requires few { slots_below self.now.l.now (base self.now.l.now x.0) < 2 ^ 32 }
+        requires few { slots_below self.now.l.now (base_layout self.now.l.now x.0) < 2 ^ 32 }
         requires part { part_at self.now.l.now.parts x.0 ≡ parts.Host hosts.Class }
-        ensures { result ≡ given self.now.l.now self.now.text.now self.now.name self.now.skip x.0 held }
+        ensures { result
+            ≡ layout_result self.now.l.now self.now.text.now self.now.name self.now.skip x.0 held }
     {
         let slot = slots_under(self.l, x) as u32;
         let declared = Declared {
@@ -124,9 +127,10 @@ impl Query<'_> {
     /// What the slot of a catch object gives.
     fn find_caught(&self, x: LayoutId, held: bool, body: u32, exception: u32) -> Found
         requires layout { IsLayout self.now.l.now x }
-        requires few { slots_below self.now.l.now (base self.now.l.now x.0) < 2 ^ 32 }
+        requires few { slots_below self.now.l.now (base_layout self.now.l.now x.0) < 2 ^ 32 }
         requires part { part_at self.now.l.now.parts x.0 ≡ parts.Catch body exception }
-        ensures { result ≡ given self.now.l.now self.now.text.now self.now.name self.now.skip x.0 held }
+        ensures { result
+            ≡ layout_result self.now.l.now self.now.text.now self.now.name self.now.skip x.0 held }
     {
         let abc = self.l.abc();
         let index = caught_name(abc, body, exception);
@@ -150,7 +154,9 @@ impl Query<'_> {
     fn try_place(&self, x: LayoutId, held: bool, place: u32) -> Found
         requires layout { IsLayout self.now.l.now x }
         requires place { place < length (own_table_of self.now.l.now x.0) }
-        ensures { result ≡ gives self.now.l.now self.now.name self.now.skip x.0 held (own_at self.now.l.now x.0 place) }
+        ensures { result
+            ≡ gives_found self.now.l.now self.now.name self.now.skip x.0 held
+            (own_at self.now.l.now x.0 place) }
     {
         let info = &own_table(self.l, x)[place as usize];
         let space = TraitSpace::Pool(qname_at(self.l.abc(), info.name).ns);
@@ -167,8 +173,11 @@ impl Query<'_> {
     #[inline(never)]
     fn try_each(&self, x: LayoutId, held: bool, places: &[u32]) -> Found
         requires layout { IsLayout self.now.l.now x }
-        requires places { (i : ℕ) → i < length places.now → get_or places.now i 0 < length (own_table_of self.now.l.now x.0) }
-        ensures { result ≡ gives self.now.l.now self.now.name self.now.skip x.0 held (flat_map (own_at self.now.l.now x.0) places.now) }
+        requires places { (i : ℕ) → i < length places.now
+            → get_or places.now i 0 < length (own_table_of self.now.l.now x.0) }
+        ensures { result
+            ≡ gives_found self.now.l.now self.now.name self.now.skip x.0 held
+            (flat_map (own_at self.now.l.now x.0) places.now) }
     {
         let mut so_far = Found::Missing;
         for place in places {
@@ -184,8 +193,11 @@ impl Query<'_> {
     #[inline(always)]
     fn try_places(&self, x: LayoutId, held: bool, places: &[u32]) -> Found
         requires layout { IsLayout self.now.l.now x }
-        requires places { (i : ℕ) → i < length places.now → get_or places.now i 0 < length (own_table_of self.now.l.now x.0) }
-        ensures { result ≡ gives self.now.l.now self.now.name self.now.skip x.0 held (flat_map (own_at self.now.l.now x.0) places.now) }
+        requires places { (i : ℕ) → i < length places.now
+            → get_or places.now i 0 < length (own_table_of self.now.l.now x.0) }
+        ensures { result
+            ≡ gives_found self.now.l.now self.now.name self.now.skip x.0 held
+            (flat_map (own_at self.now.l.now x.0) places.now) }
     {
         match only_of(places) {
             Some(place) => self.try_place(x, held, place),
@@ -197,7 +209,11 @@ impl Query<'_> {
     #[inline(always)]
     fn find_in_table(&self, x: LayoutId, held: bool) -> Found
         requires { IsLayout self.now.l.now x }
-        ensures { result ≡ gives self.now.l.now self.now.name self.now.skip x.0 held (with_text self.now.text.now (traits_from self.now.l.now (slots_below self.now.l.now (base self.now.l.now x.0)) (own_table_of self.now.l.now x.0))) }
+        ensures { result
+            ≡ gives_found self.now.l.now self.now.name self.now.skip x.0 held
+            (with_text self.now.text.now (traits_from self.now.l.now
+            (slots_below self.now.l.now (base_layout self.now.l.now x.0))
+            (own_table_of self.now.l.now x.0))) }
     {
         match self.l.own_numbered(x, self.number) {
             Some(places) => self.try_places(x, held, places.as_slice()),
@@ -209,9 +225,10 @@ impl Query<'_> {
     #[inline(always)]
     fn find_in_host_class(&self, x: LayoutId, held: bool, class: HostClass) -> Found
         requires layout { IsLayout self.now.l.now x }
-        requires few { slots_below self.now.l.now (base self.now.l.now x.0) < 2 ^ 32 }
+        requires few { slots_below self.now.l.now (base_layout self.now.l.now x.0) < 2 ^ 32 }
         requires part { part_at self.now.l.now.parts x.0 ≡ parts.Host class }
-        ensures { result ≡ given self.now.l.now self.now.text.now self.now.name self.now.skip x.0 held }
+        ensures { result
+            ≡ layout_result self.now.l.now self.now.text.now self.now.name self.now.skip x.0 held }
     {
         match class {
             HostClass::Class => self.find_prototype(x, held),
@@ -223,7 +240,8 @@ impl Query<'_> {
     #[inline(always)]
     fn find_in_layout(&self, x: LayoutId, held: bool) -> Found
         requires { IsLayout self.now.l.now x }
-        ensures { result ≡ given self.now.l.now self.now.text.now self.now.name self.now.skip x.0 held }
+        ensures { result
+            ≡ layout_result self.now.l.now self.now.text.now self.now.name self.now.skip x.0 held }
     {
         self.l.linked_law();
         self.l.slots_law();
@@ -247,8 +265,10 @@ impl Query<'_> {
     /// protected namespace of a class on the way to them.
     #[inline(never)]
     fn find_above(&self, first: Found, above: Option<LayoutId>, below: bool) -> Found
-        requires { IsBelow (layout_number above) (length self.now.l.now.parts) }
-        ensures { result ≡ or_next first (along self.now.l.now self.now.text.now self.now.name self.now.skip below (way (base self.now.l.now) (layout_number above))) }
+        requires { IsPlaceBelow (layout_number above) (length self.now.l.now.parts) }
+        ensures { result
+            ≡ or_next first (along self.now.l.now self.now.text.now self.now.name self.now.skip below
+            (way (base_layout self.now.l.now) (layout_number above))) }
     {
         self.l.linked_law();
         let mut held = below;
@@ -270,7 +290,9 @@ impl Query<'_> {
     #[inline(always)]
     fn find_from(&self, from: LayoutId, below: bool) -> Found
         requires { IsLayout self.now.l.now from }
-        ensures { result ≡ along self.now.l.now self.now.text.now self.now.name self.now.skip below (way (base self.now.l.now) (Some from.0)) }
+        ensures { result
+            ≡ along self.now.l.now self.now.text.now self.now.name self.now.skip below
+            (way (base_layout self.now.l.now) (Some from.0)) }
     {
         self.l.linked_law();
         let held = self.holds_up_to(below, from);
@@ -286,7 +308,9 @@ impl Query<'_> {
     #[inline(always)]
     fn holds_below(&self, object: LayoutId, from: LayoutId) -> bool
         requires { IsLayout self.now.l.now object }
-        ensures { result ≡ list_any (does_hold_protected self.now.l.now self.now.name.spaces) (before from.0 (way (base self.now.l.now) (Some object.0))) }
+        ensures { result
+            ≡ list_any (does_hold_protected self.now.l.now self.now.name.spaces)
+            (before from.0 (way (base_layout self.now.l.now) (Some object.0))) }
     {
         self.l.linked_law();
         let mut at = Some(object);
@@ -307,7 +331,9 @@ impl Query<'_> {
     pub(crate) fn find_declared(&self, object: LayoutId, from: LayoutId) -> Found
         requires object { IsLayout self.now.l.now object }
         requires from { IsLayout self.now.l.now from }
-        ensures { result ≡ answer self.now.l.now self.now.a.now self.now.name self.now.skip (traits self.now.l.now object.0 from.0) }
+        ensures { result
+            ≡ answer_of_search self.now.l.now self.now.a.now self.now.name self.now.skip
+            (traits self.now.l.now object.0 from.0) }
     {
         let held = self.holds_below(object, from);
         self.find_from(from, held)

@@ -1,9 +1,9 @@
 ghost use Rattle.std.specs.Prelude.{◌≡◌, ◌≤◌, Some, None, if◌then◌else◌, nat_le};
 ghost use Rattle.std.specs.List.{list_all};
 ghost use Rattle.abc_heap_store.specs.Texts.{IsText};
-ghost use Rattle.abc_lookup.specs.Named.{element_in, element_on};
+ghost use Rattle.abc_lookup.specs.Named.{element_in, element_name_on};
 ghost use Rattle.abc_objects.specs.Values.{IsObject};
-ghost use Rattle.abc_objects.specs.ElementNames.{element_name, element_number as number_named, is_digit as does_digit, is_numeral as does_numeral, number_from};
+ghost use Rattle.abc_objects.specs.ElementNames.{element_name, element_number as number_named, is_name_digit as does_digit, is_element_numeral as does_numeral, number_from};
 
 use abc_heap_values::{ObjId, Span};
 use abc_link::Linked;
@@ -46,7 +46,8 @@ fn is_numeral(text: &[u8]) -> bool
 
 /// The number of some digits, unless it is above the greatest.
 fn number_of(digits: &[u8]) -> Option<u32>
-    ensures { result ≡ (if nat_le (number_from 0 digits.now) 4294967294 then Some (number_from 0 digits.now) else None) }
+    ensures { result
+        ≡ (if nat_le (number_from 0 digits.now) 4294967294 then Some (number_from 0 digits.now) else None) }
 {
     let mut number: u64 = 0;
     for digit in digits {
@@ -87,7 +88,7 @@ fn name_of(text: &[u8]) -> Option<ElementName>
 pub fn element_named(l: &Linked, a: &Arena, o: ObjId, text: Span) -> Option<ElementName>
     requires object { IsObject a.now o }
     requires text { IsText l.now.file.strings a.now text }
-    ensures { element_in result ≡ element_on l.now a.now o text }
+    ensures { element_in result ≡ element_name_on l.now a.now o text }
 {
     if !a.is_array(o) {
         return None;

@@ -2,7 +2,7 @@ ghost use Rattle.std.specs.Prelude.{◌≡◌};
 ghost use Rattle.abc_link_names.specs.Instances.{instance_at};
 ghost use Rattle.abc_link_names.specs.Pool.{same_space};
 ghost use Rattle.abc_link_names.specs.Linked.{IsLayout};
-ghost use Rattle.abc_objects.specs.Spaces.{above_zero as above_none, holds as does_hold, holds_pooled as does_hold_pooled, holds_public as does_hold_public, is_protected as does_protect, protected_of as protected_in};
+ghost use Rattle.abc_objects.specs.Spaces.{above_zero as above_none, holds_trait_space as does_hold, holds_pooled as does_hold_pooled, name_holds_public as does_hold_public, is_protected as does_protect, protected_of as protected_in};
 
 use abc_file_types::Abc;
 use abc_link::Linked;

@@ -23,7 +23,8 @@ fn is_whole_string(l: &Linked, text: Span) -> bool
 /// The number of a text that is the whole of a string of the file, which is in a table.
 #[inline(always)]
 pub fn whole_number(l: &Linked, text: Span) -> Option<u32>
-    ensures { MatchOption result (Unit {0}) (λ n. (h : Heap) → first (bytes_eq (text_of l.now.file.strings h text)) (texts_of l.now.file.strings) ≡ Some n) }
+    ensures { MatchOption result (Unit {0}) (λ n. (h : Heap)
+        → first (bytes_eq (text_of l.now.file.strings h text)) (texts_of l.now.file.strings) ≡ Some n) }
 {
     if is_whole_string(l, text) {
         return Some(l.string_number(text.part - 2));

@@ -1,8 +1,8 @@
 ghost use Rattle.std.specs.Prelude.{◌≡◌};
 ghost use Rattle.abc_objects.specs.Stands.{IsObjectOrNone, StandsOver};
 ghost use Rattle.abc_objects.specs.Values.{Exists, IsObject};
-ghost use Rattle.abc_objects.specs.Candidates.{answer, candidates_on, holder_of, things_along, traits_of_object, traits_on, where_public};
-ghost use Rattle.abc_objects.specs.Objects.{host_prototype, number_of};
+ghost use Rattle.abc_objects.specs.Candidates.{answer_of_search, candidates_on, holder_of, things_along, traits_of_object, traits_on, where_public};
+ghost use Rattle.abc_objects.specs.Objects.{host_prototype, number_of_object};
 
 use crate::query::Query;
 use abc_base::HostClass;
@@ -15,7 +15,9 @@ impl Query<'_> {
     pub(crate) fn find_trait_of(&self, o: ObjId) -> Found
         requires over { StandsOver self.now.l.now self.now.a.now }
         requires inside { IsObject self.now.a.now o }
-        ensures { result ≡ answer self.now.l.now self.now.a.now self.now.name self.now.skip (traits_of_object self.now.l.now self.now.a.now o.0) }
+        ensures { result
+            ≡ answer_of_search self.now.l.now self.now.a.now self.now.name self.now.skip
+            (traits_of_object self.now.l.now self.now.a.now o.0) }
     {
         let layout = self.a.layout(o);
         self.find_declared(layout, layout)
@@ -26,7 +28,9 @@ impl Query<'_> {
     fn find_trait_on(&self, holder: Value) -> Found
         requires over { StandsOver self.now.l.now self.now.a.now }
         requires holder { Exists self.now.l.now self.now.a.now holder }
-        ensures { result ≡ answer self.now.l.now self.now.a.now self.now.name self.now.skip (traits_on self.now.l.now self.now.a.now holder) }
+        ensures { result
+            ≡ answer_of_search self.now.l.now self.now.a.now self.now.name self.now.skip
+            (traits_on self.now.l.now self.now.a.now holder) }
     {
         match holder {
             Value::Obj(o) => self.find_trait_of(o),
@@ -51,7 +55,7 @@ impl Query<'_> {
     fn holder_of(&self, holder: Value) -> Option<ObjId>
         requires over { StandsOver self.now.l.now self.now.a.now }
         requires holder { Exists self.now.l.now self.now.a.now holder }
-        ensures is { number_of result ≡ holder_of self.now.a.now holder }
+        ensures is { number_of_object result ≡ holder_of self.now.a.now holder }
         ensures inside { IsObjectOrNone self.now.a.now result }
     {
         match holder {
@@ -69,7 +73,10 @@ impl Query<'_> {
     fn find_public_on(&self, holder: Value) -> Found
         requires over { StandsOver self.now.l.now self.now.a.now }
         requires holder { Exists self.now.l.now self.now.a.now holder }
-        ensures { result ≡ answer self.now.l.now self.now.a.now self.now.name self.now.skip (where_public self.now.l.now self.now.name (things_along self.now.a.now (holder_of self.now.a.now holder))) }
+        ensures { result
+            ≡ answer_of_search self.now.l.now self.now.a.now self.now.name self.now.skip
+            (where_public self.now.l.now self.now.name
+            (things_along self.now.a.now (holder_of self.now.a.now holder))) }
     {
         if !self.public {
             return Found::Missing;
@@ -82,7 +89,9 @@ impl Query<'_> {
     pub(crate) fn find_on(&self, holder: Value) -> Found
         requires over { StandsOver self.now.l.now self.now.a.now }
         requires holder { Exists self.now.l.now self.now.a.now holder }
-        ensures { result ≡ answer self.now.l.now self.now.a.now self.now.name self.now.skip (candidates_on self.now.l.now self.now.a.now self.now.name holder) }
+        ensures { result
+            ≡ answer_of_search self.now.l.now self.now.a.now self.now.name self.now.skip
+            (candidates_on self.now.l.now self.now.a.now self.now.name holder) }
     {
         let declared = self.find_trait_on(holder);
         if declared.is_hit() {

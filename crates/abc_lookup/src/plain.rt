@@ -2,7 +2,7 @@ ghost use Rattle.std.specs.Prelude.{◌≡◌, true, false};
 ghost use Rattle.abc_heap_store.specs.Texts.{IsText};
 ghost use Rattle.abc_heap_store.specs.What.{is_array as does_hold_elements};
 ghost use Rattle.abc_heap_store.specs.Heap.{object_at};
-ghost use Rattle.abc_lookup.specs.NoTraits.{HasNoTraits, IsFirst, IsPlain, class_is_bare, part_is_bare};
+ghost use Rattle.abc_lookup.specs.NoTraits.{HasNoTraits, IsFoundFirst, IsWithoutTraits, class_is_bare, part_is_bare};
 ghost use Rattle.abc_objects.specs.Stands.{StandsOver};
 ghost use Rattle.abc_objects.specs.Values.{IsObject};
 ghost use Rattle.abc_link_names.specs.Linked.{IsLayout};
@@ -46,7 +46,7 @@ pub(crate) fn has_no_traits(l: &Linked, x: LayoutId) -> bool
 pub fn is_plain(l: &Linked, a: &Arena, o: ObjId, name: &Name) -> bool
     requires over { StandsOver l.now a.now }
     requires holder { IsObject a.now o }
-    ensures { result ≡ true → IsPlain l.now a.now o name.now }
+    ensures { result ≡ true → IsWithoutTraits l.now a.now o name.now }
 {
     if !has_no_traits(l, a.layout(o)) {
         return false;
@@ -60,9 +60,9 @@ fn first_element(l: &Linked, a: &Arena, o: ObjId, name: &Name) -> Found
     requires over { StandsOver l.now a.now }
     requires holder { IsObject a.now o }
     requires name { IsText l.now.file.strings a.now name.now.text }
-    requires plain { IsPlain l.now a.now o name.now }
+    requires plain { IsWithoutTraits l.now a.now o name.now }
     requires array { does_hold_elements (object_at a.now.objects o.0).what ≡ true }
-    ensures { IsFirst l.now a.now o name.now result }
+    ensures { IsFoundFirst l.now a.now o name.now result }
 {
     match element_number(a.text_bytes(l, name.text)) {
         Some(index) => {
@@ -82,9 +82,9 @@ fn first_property(l: &Linked, a: &Arena, o: ObjId, name: &Name) -> Found
     requires over { StandsOver l.now a.now }
     requires holder { IsObject a.now o }
     requires name { IsText l.now.file.strings a.now name.now.text }
-    requires plain { IsPlain l.now a.now o name.now }
+    requires plain { IsWithoutTraits l.now a.now o name.now }
     requires no_array { does_hold_elements (object_at a.now.objects o.0).what ≡ false }
-    ensures { IsFirst l.now a.now o name.now result }
+    ensures { IsFoundFirst l.now a.now o name.now result }
 {
     match a.property(l, o, name.text) {
         Some(value) => Found::Property { holder: o, value },
@@ -98,8 +98,8 @@ fn first_of_plain(l: &Linked, a: &Arena, o: ObjId, name: &Name) -> Found
     requires over { StandsOver l.now a.now }
     requires holder { IsObject a.now o }
     requires name { IsText l.now.file.strings a.now name.now.text }
-    requires plain { IsPlain l.now a.now o name.now }
-    ensures { IsFirst l.now a.now o name.now result }
+    requires plain { IsWithoutTraits l.now a.now o name.now }
+    ensures { IsFoundFirst l.now a.now o name.now result }
 {
     if a.is_array(o) {
         first_element(l, a, o, name)
@@ -115,7 +115,7 @@ pub fn find_first(l: &Linked, a: &Arena, o: ObjId, name: &Name) -> Found
     requires over { StandsOver l.now a.now }
     requires holder { IsObject a.now o }
     requires name { IsText l.now.file.strings a.now name.now.text }
-    ensures { IsFirst l.now a.now o name.now result }
+    ensures { IsFoundFirst l.now a.now o name.now result }
 {
     if is_plain(l, a, o, name) {
         first_of_plain(l, a, o, name)

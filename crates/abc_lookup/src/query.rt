@@ -3,7 +3,7 @@ ghost use Rattle.std.specs.Str.{bytes_eq};
 ghost use Rattle.abc_heap_store.specs.Texts.{IsText, text_of};
 ghost use Rattle.abc_base_graphs.specs.Index.{first};
 ghost use Rattle.abc_base_graphs.specs.Texts.{texts_of};
-ghost use Rattle.abc_objects.specs.Spaces.{holds_public};
+ghost use Rattle.abc_objects.specs.Spaces.{name_holds_public};
 
 use abc_link::Linked;
 use abc_objects::{Arena, Name, Skip};
@@ -24,5 +24,5 @@ pub(crate) struct Query<'a> {
     ghost named: { IsText l.now.file.strings a.now name.text },
     ghost texted: { text.now ≡ text_of l.now.file.strings a.now name.text },
     ghost told: { first (bytes_eq text.now) (texts_of l.now.file.strings) ≡ number },
-    ghost held: { holds_public l.now name.spaces ≡ public },
+    ghost held: { name_holds_public l.now name.spaces ≡ public },
 }

@@ -1,12 +1,12 @@
 ghost use Rattle.std.specs.Prelude.{◌≡◌, ◌<◌, Some, length, map, reverse, true};
 ghost use Rattle.std.specs.List.{find, range_with_len};
 ghost use Rattle.abc_lookup.specs.Scripts.{HasNot};
-ghost use Rattle.abc_lookup.specs.Steps.{IsPlace, place_in};
+ghost use Rattle.abc_lookup.specs.Steps.{IsScriptPlace, place_if_any};
 ghost use Rattle.abc_objects.specs.Stands.{AreEntries, IsScope, StandsOver};
 ghost use Rattle.abc_objects.specs.Values.{IsObject};
-ghost use Rattle.abc_objects.specs.Candidates.{answer, where_public};
+ghost use Rattle.abc_objects.specs.Candidates.{answer_of_search, where_public};
 ghost use Rattle.abc_objects.specs.Scopes as search;
-ghost use Rattle.abc_objects.specs.Scopes.{candidates_at, has, places, saved_places, scope_things};
+ghost use Rattle.abc_objects.specs.Scopes.{candidates_at, has, scope_places, saved_places, scope_things};
 ghost use Rattle.abc_objects.specs.declared.found.Skip.TheVariants as skips;
 ghost use Rattle.abc_link.specs.ScriptTraits.{script_traits};
 
@@ -30,7 +30,9 @@ impl Query<'_> {
     fn find_thing_in(&self, entry: ScopeEntry) -> Found
         requires over { StandsOver self.now.l.now self.now.a.now }
         requires inside { IsObject self.now.a.now entry.object }
-        ensures { result ≡ answer self.now.l.now self.now.a.now self.now.name self.now.skip (scope_things self.now.a.now entry) }
+        ensures { result
+            ≡ answer_of_search self.now.l.now self.now.a.now self.now.name self.now.skip
+            (scope_things self.now.a.now entry) }
     {
         if entry.with_flag {
             return self.find_own(entry.object);
@@ -45,7 +47,9 @@ impl Query<'_> {
     fn find_public_in(&self, entry: ScopeEntry) -> Found
         requires over { StandsOver self.now.l.now self.now.a.now }
         requires inside { IsObject self.now.a.now entry.object }
-        ensures { result ≡ answer self.now.l.now self.now.a.now self.now.name self.now.skip (where_public self.now.l.now self.now.name (scope_things self.now.a.now entry)) }
+        ensures { result
+            ≡ answer_of_search self.now.l.now self.now.a.now self.now.name self.now.skip
+            (where_public self.now.l.now self.now.name (scope_things self.now.a.now entry)) }
     {
         if !self.public {
             return Found::Missing;
@@ -57,7 +61,9 @@ impl Query<'_> {
     fn find_in_scope(&self, entry: ScopeEntry) -> Found
         requires over { StandsOver self.now.l.now self.now.a.now }
         requires inside { IsObject self.now.a.now entry.object }
-        ensures { result ≡ answer self.now.l.now self.now.a.now self.now.name self.now.skip (candidates_at self.now.l.now self.now.a.now self.now.name (search.InScope entry)) }
+        ensures { result
+            ≡ answer_of_search self.now.l.now self.now.a.now self.now.name self.now.skip
+            (candidates_at self.now.l.now self.now.a.now self.now.name (search.InScope entry)) }
     {
         let declared = self.find_trait_of(entry.object);
         if declared.is_hit() {
@@ -89,7 +95,9 @@ impl Query<'_> {
     /// What the host object's dynamic properties give.
     fn find_in_host(&self) -> Found
         requires { StandsOver self.now.l.now self.now.a.now }
-        ensures { result ≡ answer self.now.l.now self.now.a.now self.now.name self.now.skip (candidates_at self.now.l.now self.now.a.now self.now.name search.InHost) }
+        ensures { result
+            ≡ answer_of_search self.now.l.now self.now.a.now self.now.name self.now.skip
+            (candidates_at self.now.l.now self.now.a.now self.now.name search.InHost) }
     {
         if !self.public {
             return Found::Missing;
@@ -111,8 +119,10 @@ impl Query<'_> {
         requires over { StandsOver self.now.l.now self.now.a.now }
         requires scopes { AreEntries self.now.a.now scopes.now }
         requires nothing { self.now.skip ≡ skips.Nothing }
-        ensures inside { IsPlace self.now.l.now result }
-        ensures first { place_in result ≡ find (has self.now.l.now self.now.a.now self.now.name) (map search.InScope (reverse scopes.now)) }
+        ensures inside { IsScriptPlace self.now.l.now result }
+        ensures first { place_if_any result
+            ≡ find (has self.now.l.now self.now.a.now self.now.name)
+            (map search.InScope (reverse scopes.now)) }
     {
         for i in (0..scopes.len()).rev() {
             let entry = scopes[i];
@@ -128,8 +138,9 @@ impl Query<'_> {
         requires over { StandsOver self.now.l.now self.now.a.now }
         requires saved { IsScope self.now.a.now saved }
         requires nothing { self.now.skip ≡ skips.Nothing }
-        ensures inside { IsPlace self.now.l.now result }
-        ensures first { place_in result ≡ find (has self.now.l.now self.now.a.now self.now.name) (saved_places self.now.a.now saved) }
+        ensures inside { IsScriptPlace self.now.l.now result }
+        ensures first { place_if_any result
+            ≡ find (has self.now.l.now self.now.a.now self.now.name) (saved_places self.now.a.now saved) }
     {
         let mut at = saved;
         while let Some(s) = at {
@@ -160,9 +171,11 @@ impl Query<'_> {
     fn find_owner(&self, places: &[u32]) -> Option<Place>
         requires over { StandsOver self.now.l.now self.now.a.now }
         requires nothing { self.now.skip ≡ skips.Nothing }
-        requires places { Some places.now ≡ script_traits self.now.l.now.file self.now.text.now }
-        ensures inside { IsPlace self.now.l.now result }
-        ensures first { place_in result ≡ find (has self.now.l.now self.now.a.now self.now.name) (map search.InScript (range_with_len 0 (length self.now.l.now.file.scripts))) }
+        requires places { Some scope_places.now ≡ script_traits self.now.l.now.file self.now.text.now }
+        ensures inside { IsScriptPlace self.now.l.now result }
+        ensures first { place_if_any result
+            ≡ find (has self.now.l.now self.now.a.now self.now.name)
+            (map search.InScript (range_with_len 0 (length self.now.l.now.file.scripts))) }
     {
         let mut tried = None;
         for place in places {
@@ -179,8 +192,10 @@ impl Query<'_> {
     fn find_script(&self) -> Option<Place>
         requires over { StandsOver self.now.l.now self.now.a.now }
         requires nothing { self.now.skip ≡ skips.Nothing }
-        ensures inside { IsPlace self.now.l.now result }
-        ensures first { place_in result ≡ find (has self.now.l.now self.now.a.now self.now.name) (map search.InScript (range_with_len 0 (length self.now.l.now.file.scripts))) }
+        ensures inside { IsScriptPlace self.now.l.now result }
+        ensures first { place_if_any result
+            ≡ find (has self.now.l.now self.now.a.now self.now.name)
+            (map search.InScript (range_with_len 0 (length self.now.l.now.file.scripts))) }
     {
         match self.l.script_traits(self.number) {
             Some(places) => self.find_owner(places.as_slice()),
@@ -195,8 +210,10 @@ impl Query<'_> {
         requires scopes { AreEntries self.now.a.now scopes.now }
         requires saved { IsScope self.now.a.now saved }
         requires nothing { self.now.skip ≡ skips.Nothing }
-        ensures inside { IsPlace self.now.l.now result }
-        ensures first { place_in result ≡ find (has self.now.l.now self.now.a.now self.now.name) (places self.now.l.now self.now.a.now scopes.now saved) }
+        ensures inside { IsScriptPlace self.now.l.now result }
+        ensures first { place_if_any result
+            ≡ find (has self.now.l.now self.now.a.now self.now.name)
+            (scope_places self.now.l.now self.now.a.now scopes.now saved) }
     {
         if let Some(place) = self.find_local(scopes) {
             return Some(place);

@@ -1,5 +1,5 @@
 ghost use Rattle.std.specs.Prelude.{◌≡◌, false, get_or};
-ghost use Rattle.abc_lookup.specs.Steps.{IsPlace, place_in};
+ghost use Rattle.abc_lookup.specs.Steps.{IsScriptPlace, place_if_any};
 ghost use Rattle.abc_heap_store.specs.Texts.{IsText};
 ghost use Rattle.abc_objects.specs.Stands.{AreEntries, IsScope, StandsOver};
 ghost use Rattle.abc_heap_values.specs.declared.values.Value.TheVariants.{Obj};
@@ -154,8 +154,8 @@ fn is_started(started: &Table<bool>, script: u32) -> bool
 /// What is found where a place has the name.
 fn place_found(l: &Linked, a: &Arena, started: &Table<bool>, place: Option<Place>) -> ScopeFound
     requires over { StandsOver l.now a.now }
-    requires place { IsPlace l.now place }
-    ensures { result ≡ scope_named a.now started.now (place_in place) }
+    requires place { IsScriptPlace l.now place }
+    ensures { result ≡ scope_named a.now started.now (place_if_any place) }
 {
     let _file = l;
     match place {

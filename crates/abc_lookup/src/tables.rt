@@ -1,6 +1,6 @@
 ghost use Rattle.std.specs.Prelude.{◌≡◌, ◌<◌, length};
-ghost use Rattle.abc_lookup.specs.Slots.{listed, slot_of};
-ghost use Rattle.abc_link_names.specs.Linked.{IsLayout, base};
+ghost use Rattle.abc_lookup.specs.Slots.{members_of, slot_of};
+ghost use Rattle.abc_link_names.specs.Linked.{IsLayout, base_layout};
 ghost use Rattle.abc_link_names.specs.Slots.{handler_at};
 ghost use Rattle.abc_link_names.specs.Traits.{own_table_of};
 ghost use Rattle.abc_objects.specs.Traits.{members_in, slots_under as slots_below};
@@ -34,7 +34,7 @@ pub(crate) fn own_table(l: &Linked, x: LayoutId) -> &[TraitInfo]
 /// How many slots of a layout stand before its own.
 pub(crate) fn slots_under(l: &Linked, x: LayoutId) -> usize
     requires { IsLayout l.now x }
-    ensures { result ≡ slots_below l.now (base l.now x.0) }
+    ensures { result ≡ slots_below l.now (base_layout l.now x.0) }
 {
     l.linked_law();
     match l.base(x) {
@@ -59,7 +59,7 @@ pub(crate) fn slot_at(l: &Linked, x: LayoutId, place: u32) -> u32
 pub(crate) fn member_at(l: &Linked, x: LayoutId, place: u32, body: TraitBody) -> Option<Member>
     requires layout { IsLayout l.now x }
     requires place { place < length (own_table_of l.now x.0) }
-    ensures { listed result ≡ members_in (slot_of l.now x.0 place) body }
+    ensures { members_of result ≡ members_in (slot_of l.now x.0 place) body }
 {
     match body {
         TraitBody::Slot { constant, .. } => Some(Member::Slot {

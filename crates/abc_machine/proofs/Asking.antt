@@ -6,12 +6,12 @@ use Rattle.std.specs.declared.result.Result.{Result}
 use Rattle.abc_base.specs.declared.formula.Formula.{Formula}
 use Rattle.abc_meaning.specs.Calls.{Replied, begins_call, call_meaning, replies, replies_for, then_replies}
 use Rattle.abc_heap_values.specs.declared.values.Value.TheVariants.{Undefined}
-use Rattle.abc_run_finish.specs.Ending.{IsSized, end_of, stepped_by}
+use Rattle.abc_run_finish.specs.Ending.{IsSized, end_of_run, stepped_by}
 use Rattle.abc_run_finish.specs.declared.ended.Ended.{Ended}
 use Rattle.abc_run_finish.specs.declared.ended.Ended.TheVariants as ended
 use Rattle.abc_machine.specs.Machines.{kept_world}
 use Rattle.abc_machine.specs.Replied.{IsReplyOf, RepliesAs, replied}
-use Rattle.abc_machine.specs.Runs.{Leaves}
+use Rattle.abc_machine.specs.Runs.{LeavesWorld}
 use Rattle.abc_machine.specs.Spent.{reply_by, reply_for}
 use Rattle.abc_machine.specs.declared.replies.Reply.{Reply}
 use Rattle.abc_machine.specs.declared.replies.Reply.TheVariants.{WriteFault}
@@ -27,7 +27,7 @@ use Rattle.abc_meaning.specs.Setting.{Setting}
 use Rattle.abc_run_state.specs.declared.state.State.{State}
 
 -- where it can't be begun, that is its reply
-reply_is : (e : Ended) → IsReplyOf (reply_by Undefined (end_of e)) (reply_for (Halts e))
+reply_is : (e : Ended) → IsReplyOf (reply_by Undefined (end_of_run e)) (reply_for (Halts e))
 reply_is (ended.Uncaught thrown) = refl
 reply_is (ended.Profile method index fault) = refl
 reply_is (ended.Full limit) = refl
@@ -53,15 +53,15 @@ module _ (l : LinkedFile) (fs : List Formula) (old new : State) (fuel method : �
         let same : called ≡ replies_for p fuel (machine new out) = begun_as (goes_on (world new out) new.frames.living) (ap (λ (q : Result Unit Ended). stepped_by q (world new out) new.frames) is) in
         subst (λ (q : Replied). RepliesAs q x z reply) (sym same) a
 
-    pub goes_left : (u : Unit) (last : State) (reply : Reply) → r ≡ Ok u → (reply ≢ WriteFault → Leaves p (replies_for p fuel (machine new out)).world last) → reply ≢ WriteFault → Leaves p called.world last
+    pub goes_left : (u : Unit) (last : State) (reply : Reply) → r ≡ Ok u → (reply ≢ WriteFault → LeavesWorld p (replies_for p fuel (machine new out)).world last) → reply ≢ WriteFault → LeavesWorld p called.world last
     goes_left u last reply is leaves f =
         let same : called ≡ replies_for p fuel (machine new out) = begun_as (goes_on (world new out) new.frames.living) (ap (λ (q : Result Unit Ended). stepped_by q (world new out) new.frames) is) in
-        subst (λ (q : Replied). Leaves p q.world last) (sym same) (leaves f)
+        subst (λ (q : Replied). LeavesWorld p q.world last) (sym same) (leaves f)
 
     -- it ends at once
     pub ends : (e : Ended) (x : Option (List ℕ)) (reply : Reply) → r ≡ Err e → reply ≡ reply_for (Halts e) → IsSized p new.arena.limits new.frames → Comes p called x x reply new
     ends e x reply is told sized =
         let first : called ≡ then_replies Undefined (stepped_by (Err e) (world new out) new.frames) (replies_for p fuel) = begun_as (stepped_by (Err e) (world new out) new.frames) (ap (λ (q : Result Unit Ended). stepped_by q (world new out) new.frames) is) in
-        let same : called ≡ replies (world new out) (reply_by Undefined (end_of e)) = first ∙ then_is Undefined (world new out) (end_of e) (replies_for p fuel) in
-        let here = replied (replies (world new out) (reply_by Undefined (end_of e))) reply (subst (IsReplyOf (reply_by Undefined (end_of e))) (sym told) (reply_is e)) (λ (some : IsSome x). append_none x) in
+        let same : called ≡ replies (world new out) (reply_by Undefined (end_of_run e)) = first ∙ then_is Undefined (world new out) (end_of_run e) (replies_for p fuel) in
+        let here = replied (replies (world new out) (reply_by Undefined (end_of_run e))) reply (subst (IsReplyOf (reply_by Undefined (end_of_run e))) (sym told) (reply_is e)) (λ (some : IsSome x). append_none x) in
         subst (λ (q : Replied). Comes p q x x reply new) (sym same) (record { answer = here; leaves = λ f. record { heap = refl; started = refl; sized = sized } })

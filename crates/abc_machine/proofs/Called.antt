@@ -14,19 +14,19 @@ use Rattle.abc_meaning_sound.proofs.Called.{call_begins}
 use Rattle.abc_meaning_sound.proofs.Fairly.{call_fair}
 use Rattle.abc_meaning_sound.proofs.Filed.{definitions, some_script}
 use Rattle.abc_meaning_sound.proofs.Typed.{has_typings}
-use Rattle.abc_run_calls.specs.Arguments.{IsKnown}
+use Rattle.abc_run_calls.specs.Arguments.{HasArgumentRoom}
 use Rattle.abc_run_finish.proofs.Stepped.{free_of}
-use Rattle.abc_run_finish.specs.Calling.{CanBegin}
+use Rattle.abc_run_finish.specs.Calling.{CanBeginCall}
 use Rattle.abc_run_finish.specs.Ending.{IsSized, stepped_by}
 use Rattle.abc_run_finish.specs.Steps.{IsReached}
 use Rattle.abc_run_finish.specs.declared.ended.Ended.{Ended}
-use Rattle.abc_run_state.specs.Outer.{Outer, setting, world}
+use Rattle.abc_run_state.specs.Outer.{Outer, setting_in, world}
 use Rattle.abc_run_state.specs.declared.state.State.{State}
 use Rattle.abc_verify_typing.specs.Lists.{Each}
 
 module _ (l : LinkedFile) (out : Outer) (m : ℕ) (s : State) (ns : List ℤ) (can : CanCall l out m s) (numbered : Each IsNumber ns) where
   abbrev p : Setting
-  p = setting l out
+  p = setting_in l out
 
   abbrev here : World
   here = world s out
@@ -37,7 +37,7 @@ module _ (l : LinkedFile) (out : Outer) (m : ℕ) (s : State) (ns : List ℤ) (c
   begins_sound : SteppedSound p typed.0 (begins_call p here m ns)
   begins_sound = call_begins p typed.0 here m ns can.verified typed.1 can.sound can.exported numbered
 
-  pub can_begin : CanBegin l out m ns s
+  pub can_begin : CanBeginCall l out m ns s
   can_begin = record {
     over = can.sound.stands;
     none = can.none;
@@ -56,5 +56,5 @@ module _ (l : LinkedFile) (out : Outer) (m : ℕ) (s : State) (ns : List ℤ) (c
     typed = typed.1;
     sound = subst (SteppedSound p typed.0) (subst (λ (x : Result Unit Ended). begins_call p here m ns ≡ stepped_by x (world new out) new.frames) is e) begins_sound;
     sized = sized;
-    known = subst (IsKnown l) (sym limit) can.known;
+    known = subst (HasArgumentRoom l) (sym limit) can.known;
   }

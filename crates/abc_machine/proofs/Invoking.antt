@@ -2,7 +2,7 @@
 use Rattle.std.proofs.Common.{◌≡◌, ◌≢◌, ℕ, List, [], Bool, true, false, refl, sym, ap, ◌∙◌, subst}
 use Rattle.std.specs.Prelude.{None, Some}
 use Rattle.std.specs.declared.option.Option.{Option}
-use Rattle.abc_base.specs.Hosts.{AreFormulas, arguments}
+use Rattle.abc_base.specs.Hosts.{AreFormulas, plain_arguments}
 use Rattle.abc_base.specs.declared.formula.Formula.{Formula}
 use Rattle.abc_base.specs.declared.plain.Plain.{Plain}
 use Rattle.abc_machine.specs.Calling.{CanCall}
@@ -15,14 +15,14 @@ use Rattle.abc_heap_values.specs.declared.values.Value.{Value}
 use Rattle.abc_heap_values.specs.declared.values.Value.TheVariants as values
 use Rattle.abc_run_finish.proofs.Listed.{each_number}
 use Rattle.abc_run_finish.specs.Ending.{IsSized}
-use Rattle.abc_run_calls.specs.Arguments.{IsKnown}
+use Rattle.abc_run_calls.specs.Arguments.{HasArgumentRoom}
 use Rattle.abc_meaning_sound.proofs.Typed.{has_typings}
 use Rattle.abc_heap_store.specs.Heap.{Heap}
 use Rattle.abc_heap_store.specs.Texts.{IsText}
-use Rattle.abc_machine.specs.Invoked.{Answers, call_of}
-use Rattle.abc_machine.specs.Machines.{CanGoOn, IsReady, Keeps, Opened, kept_world}
+use Rattle.abc_machine.specs.Invoked.{AnswersCall, call_of}
+use Rattle.abc_machine.specs.Machines.{CanGoOn, IsReadyToCall, MachineKeeps, Opened, kept_world}
 use Rattle.abc_machine.specs.Replied.{IsReplyOf, RepliesAs, failed, is_write_fault, plain_value, replied}
-use Rattle.abc_machine.specs.Runs.{Leaves}
+use Rattle.abc_machine.specs.Runs.{LeavesWorld}
 use Rattle.abc_machine.specs.declared.ends.End.{End}
 use Rattle.abc_machine.specs.declared.ends.End.TheVariants as ends
 use Rattle.abc_machine.specs.declared.replies.PlainValue.TheVariants as plains
@@ -32,7 +32,7 @@ use Rattle.abc_machine.proofs.Keeping.{Drops, can_go_on, kept_is}
 use Rattle.abc_machine.proofs.TextsKept.{keeps_texts}
 use Rattle.abc_machine.specs.Texts.{KeepsTexts, TextsGrow}
 use Rattle.abc_machine.proofs.Opening.{verified_setting, viewed}
-use Rattle.abc_meaning.specs.ThrowLaws.{IsVerified}
+use Rattle.abc_meaning.specs.ThrowLaws.{IsVerifiedSetting}
 use Rattle.abc_meaning.specs.Sound.{WorldSound}
 use Rattle.abc_objects.specs.Opening.{formula_names}
 use Rattle.abc_objects.specs.Values.{Exists}
@@ -75,7 +75,7 @@ call_texts k s t u e closed shut n m shown g same =
 not_fault : (reply : Reply) (closed : Bool) → closed ≡ is_write_fault reply → closed ≡ false → reply ≢ replies.WriteFault
 not_fault reply closed e still f = absurd (let two : true ≡ false = sym (ap is_write_fault f) ∙ sym e ∙ still in cc)
 
-module _ (l k : LinkedFile) (fs : List Formula) (s : State) (e : Option End) (closed : Bool) (seen : List Bool) (n : ℕ) (m : Opened) (same : l ≡ k) (shown : viewed k s e closed n ≡ m) (ready : IsReady m) (keeps : Keeps k s seen e closed) (named : formula_names fs ≡ m.names) (method : ℕ) (exported : IsScriptMethod (setting m.linked fs) method) where
+module _ (l k : LinkedFile) (fs : List Formula) (s : State) (e : Option End) (closed : Bool) (seen : List Bool) (n : ℕ) (m : Opened) (same : l ≡ k) (shown : viewed k s e closed n ≡ m) (ready : IsReadyToCall m) (keeps : MachineKeeps k s seen e closed) (named : formula_names fs ≡ m.names) (method : ℕ) (exported : IsScriptMethod (setting m.linked fs) method) where
   done : e ≡ m.ended
   done = ap (λ (o : Opened). o.ended) shown
 
@@ -91,11 +91,11 @@ module _ (l k : LinkedFile) (fs : List Formula) (s : State) (e : Option End) (cl
   exported_here : IsScriptMethod (setting l fs) method
   exported_here = subst (λ (i : LinkedFile). IsScriptMethod (setting i fs) method) (ap (λ (o : Opened). o.linked) (sym shown) ∙ sym same) exported
 
-  known : IsKnown l s.given.limit
-  known = subst (λ (i : LinkedFile). IsKnown i s.given.limit) (sym same) goes_on.known
+  known : HasArgumentRoom l s.given.limit
+  known = subst (λ (i : LinkedFile). HasArgumentRoom i s.given.limit) (sym same) goes_on.known
 
   module _ (linked : IsLinkedFile l) (typed : IsChecked k) (host : AreFormulas fs) where
-    verified : IsVerified (setting l fs)
+    verified : IsVerifiedSetting (setting l fs)
     verified = verified_setting l fs linked (all_typed l linked (subst IsChecked (sym same) typed)) host
 
     pub can_call : CanCall l (record { formulas = fs; wrote = [] }) method s
@@ -112,28 +112,28 @@ module _ (l k : LinkedFile) (fs : List Formula) (s : State) (e : Option End) (cl
 
     module _ (args : Plain) (fuel : ℕ) where
       abbrev at_file : LinkedFile → Replied
-      at_file i = call_meaning (setting i fs) fuel (kept_world s) method (arguments args)
+      at_file i = call_meaning (setting i fs) fuel (kept_world s) method (plain_arguments args)
 
       left_sound : WorldSound (setting l fs) (at_file l).world
-      left_sound = (let t = has_typings (setting l fs) verified in (calls_left (setting l fs) t.0 fuel (kept_world s) method (arguments args) verified t.1 sound exported_here (each_number args)).0)
+      left_sound = (let t = has_typings (setting l fs) verified in (calls_left (setting l fs) t.0 fuel (kept_world s) method (plain_arguments args) verified t.1 sound exported_here (each_number args)).0)
 
-      module _ (t u : State) (reply : Reply) (shut : Bool) (shuts : shut ≡ is_write_fault reply) (leaves : reply ≢ replies.WriteFault → Leaves (setting l fs) (at_file l).world t) (drops : Drops t u) (limit : t.given.limit ≡ s.given.limit) where
+      module _ (t u : State) (reply : Reply) (shut : Bool) (shuts : shut ≡ is_write_fault reply) (leaves : reply ≢ replies.WriteFault → LeavesWorld (setting l fs) (at_file l).world t) (drops : Drops t u) (limit : t.given.limit ≡ s.given.limit) where
         not_fresh : {X : Type 0} → e ≡ None → X
         not_fresh q = absurd (let two : Some ends.Done ≡ None = sym (done ∙ ready.done) ∙ q in cc)
 
-        pub call_keeps : Keeps k u seen e shut
+        pub call_keeps : MachineKeeps k u seen e shut
         call_keeps = record {
           begins = λ q. not_fresh q;
           noted = λ q. not_fresh q;
-          goes_on = λ q still. subst (λ (i : LinkedFile). CanGoOn i u) same (can_go_on l fs (at_file l).world t u left_sound (leaves (not_fault reply shut shuts still)) drops (subst (IsKnown l) (sym limit) known));
+          goes_on = λ q still. subst (λ (i : LinkedFile). CanGoOn i u) same (can_go_on l fs (at_file l).world t u left_sound (leaves (not_fault reply shut shuts still)) drops (subst (HasArgumentRoom l) (sym limit) known));
         }
 
         left_is : reply ≢ replies.WriteFault → kept_world u ≡ silent (at_file l).world
         left_is f = kept_is (setting l fs) (at_file l).world t u (leaves f) drops
 
-        pub call_answers : (x z : Option (List ℕ)) → RepliesAs (at_file l) x z reply → Answers m (viewed k u e shut n) (call_of method args fuel fs) x z reply
+        pub call_answers : (x z : Option (List ℕ)) → RepliesAs (at_file l) x z reply → AnswersCall m (viewed k u e shut n) (call_of method args fuel fs) x z reply
         call_answers x z a =
-            subst (λ (o : Opened). Answers o (viewed k u e shut n) (call_of method args fuel fs) x z reply) shown (record {
+            subst (λ (o : Opened). AnswersCall o (viewed k u e shut n) (call_of method args fuel fs) x z reply) shown (record {
               replies = subst (λ (i : LinkedFile). RepliesAs (at_file i) x z reply) same a;
               world = λ f. left_is f ∙ ap (λ (i : LinkedFile). silent (at_file i).world) same;
               names = λ f. ap (λ (w : World). w.heap.formulas) (left_is f) ∙ left_sound.formulas ∙ names;
@@ -146,6 +146,6 @@ module _ (l k : LinkedFile) (fs : List Formula) (s : State) (e : Option End) (cl
         pub call_text : (x z : Option (List ℕ)) (span : Span) → RepliesAs (at_file l) x z reply → reply ≡ replies.Value (plains.Text span) → IsText k.file.strings u.arena span
         call_text x z span a is =
             let gives : RepliesAs (at_file l) x z (replies.Value (plains.Text span)) = subst (RepliesAs (at_file l) x z) is a in
-            let there = text_there l (at_file l) x z span gives (λ v q. calls_give (setting l fs) fuel (kept_world s) method (arguments args) v verified sound exported_here (each_number args) q) in
+            let there = text_there l (at_file l) x z span gives (λ v q. calls_give (setting l fs) fuel (kept_world s) method (plain_arguments args) v verified sound exported_here (each_number args) q) in
             let heap : u.arena ≡ (at_file l).world.heap = ap (λ (w : World). w.heap) (left_is (λ f. absurd (let two : replies.Value (plains.Text span) ≡ replies.WriteFault = sym is ∙ f in cc))) in
             subst (λ (i : LinkedFile). IsText i.file.strings u.arena span) same (subst (λ (h : Heap). IsText l.file.strings h span) (sym heap) there)

@@ -14,13 +14,13 @@ use Rattle.abc_heap_values.specs.declared.numbers.Conversion.TheVariants.{Conver
 use Rattle.abc_heap_store.specs.declared.records.Full.{Full}
 use Rattle.abc_heap_store.specs.declared.records.Limit.TheVariants.{Frames, Stack}
 use Rattle.abc_heap_store.specs.declared.records.What.TheVariants.{Formula as AsFormula, Plain}
-use Rattle.abc_run_finish.specs.Steps.{stepped}
+use Rattle.abc_run_finish.specs.Steps.{step_of_turn}
 use Rattle.abc_meaning.specs.Logs.{world_left}
-use Rattle.abc_meaning.specs.At.{Above, Act, Goes, Returns, Stays, Top, waiting}
-use Rattle.abc_meaning.specs.Step.{gives_back, put_on, puts, resumed, resumes, room_for_frame, settles, size_of_frame, size_of_frames}
+use Rattle.abc_meaning.specs.At.{Above, Act, Goes, Returns, Stays, Top, waiting_frame}
+use Rattle.abc_meaning.specs.Step.{gives_back, put_on, puts, after_resume, resumes, room_for_frame, settles, size_of_frame, size_of_frames}
 use Rattle.abc_meaning.specs.Throwing.{Ends, Stepped, Steps, Stuck, catcher, caught_at, goes_on, has_stack, lands, stops, throws_made, unwinds}
 use Rattle.abc_meaning.specs.World.{Errs, Faults, Fills, Outcome, Run, Sticks, Stop, Stopped, Throws, Went, World, and_then}
-use Rattle.abc_meaning.specs.Calling.{Came, calls_formula, calls_what, in_range, number_in, trace}
+use Rattle.abc_meaning.specs.Calling.{Came, calls_formula, calls_what, number_in_range, number_of_argument, trace}
 use Rattle.abc_meaning.specs.Ops.{as_number, as_text}
 use Rattle.abc_meaning.specs.Setting.{Setting, routine_of}
 use Rattle.abc_meaning.proofs.Adding.{Quiet, done_quiet, each_quiet, if_quiet, room_quiet, some_quiet, stop_quiet, then_quiet, world_of}
@@ -30,8 +30,8 @@ use Rattle.abc_frames.specs.Frame.{Frame, Frames as Living, arguments, newest, r
 use Rattle.abc_frames.specs.declared.records.Size.{Size}
 use Rattle.abc_frames.specs.declared.records.Wait.{Wait}
 use Rattle.abc_frames.specs.declared.records.Wait.TheVariants as waits
-use Rattle.abc_run_state.specs.Settling.{settles as settling}
-use Rattle.abc_run_state.specs.Turns.{Turned, acted, answered, asked, bared, entered_if, left, size_for, traced, turned, turned_to}
+use Rattle.abc_run_state.specs.Settling.{settles_how as settling}
+use Rattle.abc_run_state.specs.Turns.{Turned, turn_of_act, turn_of_answer, turn_of_formula, bare_newest, entered_if, turn_of_left, size_for, turn_of_trace, turn_of, turned_to}
 use Rattle.abc_run_state.specs.declared.state.How.{How}
 use Rattle.abc_run_state.specs.declared.state.Left.{Left}
 use Rattle.abc_run_state.specs.declared.state.Left.TheVariants as lefts
@@ -105,25 +105,25 @@ module _ (p : Setting) where
   resumes_quiet w f (waits.New n) v = then_quiet w _ _ (new_quiet p w v (reverse (take n f.stack))) (λ i c. done_quiet i _)
   resumes_quiet w f waits.Not v = stop_quiet w Sticks
 
-  resumed_same : (u : World) (f : Frame) (fs : List Frame) (o : Outcome Top) → Still u o → Same u (resumed p f fs o)
+  resumed_same : (u : World) (f : Frame) (fs : List Frame) (o : Outcome Top) → Still u o → Same u (after_resume p f fs o)
   resumed_same u f fs (Went w top) a = same_on u w (settles p w fs top) a.started (settles_same w fs top)
   resumed_same u f fs (Stopped w why) a = same_on u w (stops p w (f ∷ fs) why) a.started (stops_same w (f ∷ fs) why)
 
   gives_back_same : (w : World) (v : Value) (fs : List Frame) → Same w (gives_back p w v fs)
   gives_back_same w v [] = record { started = refl }
-  gives_back_same w v (f ∷ fs) = resumed_same w f fs (resumes p (waiting waits.Not f) f.wait v w) (still w _ (resumes_quiet w (waiting waits.Not f) f.wait v))
+  gives_back_same w v (f ∷ fs) = resumed_same w f fs (resumes p (waiting_frame waits.Not f) f.wait v w) (still w _ (resumes_quiet w (waiting_frame waits.Not f) f.wait v))
 
   -- ---- what is written, and what is asked
 
   traces_still : (w : World) (args : List Value) → Still w (trace p args w)
   traces_still w args = then_still w _ _ (still w _ (each_quiet (as_text p) (λ n v. converts_quiet p n ConvertS v) w args)) (λ n texts. record { started = refl })
 
-  range_quiet : (w : World) (n : Option ℤ) → Quiet w (in_range n w)
+  range_quiet : (w : World) (n : Option ℤ) → Quiet w (number_in_range n w)
   range_quiet w None = stop_quiet w (Faults faults.Range)
   range_quiet w (Some n) = done_quiet w _
 
   formula_quiet : (w : World) (f : Formula) (args : List Value) → Quiet w (calls_formula p f args w)
-  formula_quiet w f args = if_quiet w (nat_eq (length args) (length f.factors)) _ _ (then_quiet w _ _ (each_quiet (as_number p) (λ n v. converts_quiet p n ConvertD v) w args) (λ n vs. range_quiet n (number_or_none (value_of f (map number_in vs))))) (stop_quiet w (Errs hosts.ArgumentError))
+  formula_quiet w f args = if_quiet w (nat_eq (length args) (length f.factors)) _ _ (then_quiet w _ _ (each_quiet (as_number p) (λ n v. converts_quiet p n ConvertD v) w args) (λ n vs. range_quiet n (number_or_none (value_of f (map number_of_argument vs))))) (stop_quiet w (Errs hosts.ArgumentError))
 
   asks_still : (w : World) (n : ℕ) (args : List Value) → Still w (calls_what p (AsFormula n) Undefined args w)
   asks_still w n args = still w _ (then_quiet w _ _ (some_quiet w (slice_get p.formulas n)) (λ m f. formula_quiet m f args))
@@ -133,29 +133,29 @@ module _ (p : Setting) where
 
   -- ---- what becomes of the frames
 
-  entered_same : (r : Result Unit Full) (size : Size) (w : World) (g f : Frame) (q : Living) → Same w (stepped p (entered_if r size w g f q))
+  entered_same : (r : Result Unit Full) (size : Size) (w : World) (g f : Frame) (q : Living) → Same w (step_of_turn p (entered_if r size w g f q))
   entered_same (Ok u) size w g f q = record { started = refl }
   entered_same (Err full) size w g f q = record { started = refl }
 
-  acted_same : (w : World) (q : Living) (act : Act) → Same w (stepped p (acted p w q act))
+  acted_same : (w : World) (q : Living) (act : Act) → Same w (step_of_turn p (turn_of_act p w q act))
   acted_same w q (Goes (Stays f)) = record { started = refl }
   acted_same w q (Goes (Above g f)) = entered_same (room_for q (size_for p g)) (size_for p g) w g f q
-  acted_same w q (Returns v) = gives_back_same w v (under (bared q).living)
+  acted_same w q (Returns v) = gives_back_same w v (under (bare_newest q).living)
 
-  turned_same : (u : World) (q : Living) (o : Outcome Act) → Still u o → Same u (stepped p (turned p q o))
-  turned_same u q (Went w act) a = same_on u w (stepped p (acted p w q act)) a.started (acted_same w q act)
-  turned_same u q (Stopped w why) a = same_on u w (stops p w (bared q).living why) a.started (stops_same w (bared q).living why)
+  turned_same : (u : World) (q : Living) (o : Outcome Act) → Still u o → Same u (step_of_turn p (turn_of p q o))
+  turned_same u q (Went w act) a = same_on u w (step_of_turn p (turn_of_act p w q act)) a.started (acted_same w q act)
+  turned_same u q (Stopped w why) a = same_on u w (stops p w (bare_newest q).living why) a.started (stops_same w (bare_newest q).living why)
 
-  left_same : (l : Left) (w : World) (q : Living) → Same w (stepped p (left p l w q))
+  left_same : (l : Left) (w : World) (q : Living) → Same w (step_of_turn p (turn_of_left p l w q))
   left_same lefts.Goes w q = record { started = refl }
-  left_same (lefts.Returns v) w q = gives_back_same w v (under (bared q).living)
+  left_same (lefts.Returns v) w q = gives_back_same w v (under (bare_newest q).living)
   left_same (lefts.Traces count how) w q = turned_same w q _ (settled_still w how (newest q) _ (traces_still w (arguments count (newest q))))
   left_same (lefts.Asks n count how) w q = turned_same w q _ (settled_still w how (newest q) _ (asks_still w n (arguments count (newest q))))
 
-  answered_same : (r : Result Left Why) (w : World) (q : Living) → Same w (stepped p (answered p r w q))
+  answered_same : (r : Result Left Why) (w : World) (q : Living) → Same w (step_of_turn p (turn_of_answer p r w q))
   answered_same (Ok l) w q = left_same l w q
-  answered_same (Err e) w q = stops_same w (bared q).living _
+  answered_same (Err e) w q = stops_same w (bare_newest q).living _
 
   -- what is left starts no script
-  pub none_started : (r : Result Left Why) (w : World) (q : Living) → (world_left (stepped p (answered p r w q))).started ≡ w.started
+  pub none_started : (r : Result Left Why) (w : World) (q : Living) → (world_left (step_of_turn p (turn_of_answer p r w q))).started ≡ w.started
   none_started r w q = (answered_same r w q).started

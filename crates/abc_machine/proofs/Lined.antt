@@ -10,9 +10,9 @@ use Rattle.abc_base.specs.Sinks.{GrowsByFront, WritesAll}
 use Rattle.abc_base.specs.declared.source.Failed.{Failed}
 use Rattle.abc_base.proofs.Writing.{front_second, known_told, known_twice}
 use Rattle.abc_heap_values.specs.declared.values.Value.{Value}
-use Rattle.abc_log.specs.Followed.{bytes_in, told}
+use Rattle.abc_log.specs.Followed.{bytes_in, start_and_since}
 use Rattle.abc_log.proofs.Following.{told-append, told_bytes, told_start}
-use Rattle.abc_run_finish.specs.Ending.{end_of}
+use Rattle.abc_run_finish.specs.Ending.{end_of_run}
 use Rattle.abc_run_finish.specs.Steps.{EndsIn, FailsIn, GoesOnIn, StepsIn}
 use Rattle.abc_run_finish.specs.declared.halts.Halt.{Halt}
 use Rattle.abc_run_finish.specs.declared.halts.Halt.TheVariants as halts
@@ -43,20 +43,20 @@ pub wrote_none : (w n : World) → n.wrote ≡ w.wrote → wrote_since w n ≡ [
 wrote_none w n e = wrote_some w n [] (e ∙ sym (append-nil w.wrote))
 
 -- what was written while the line was open, as it is told
-same_told : (s t a b : List ℕ) → Some (told t b) ≡ append_known (Some (told s [])) a → (t ≡ s) × (b ≡ a)
+same_told : (s t a b : List ℕ) → Some (start_and_since t b) ≡ append_known (Some (start_and_since s [])) a → (t ≡ s) × (b ≡ a)
 same_told s t a b e =
-    let whole : Some (told t b) ≡ Some (told s a) = e ∙ ap Some (told-append s [] a) in
-    let told_is : told t b ≡ told s a = cc in
+    let whole : Some (start_and_since t b) ≡ Some (start_and_since s a) = e ∙ ap Some (told-append s [] a) in
+    let told_is : start_and_since t b ≡ start_and_since s a = cc in
     (told_start t s b a told_is, told_bytes t s b a told_is)
 
 -- ---- a step whose bytes are shown in a line, from what it tells to what this tells
 
 module _ (r : Stepped) (out : Outer) (w : World) (wrote : w.wrote ≡ out.wrote) (new : State) (s t a b : List ℕ) (none : a ≡ []) where
   abbrev before : Option (List ℕ)
-  before = Some (told s a)
+  before = Some (start_and_since s a)
 
   abbrev after : Option (List ℕ)
-  after = Some (told t b)
+  after = Some (start_and_since t b)
 
   -- its bytes are those of the line, or these are a front of them
   abbrev Bytes : Result Unit Halt → Type 0
@@ -66,7 +66,7 @@ module _ (r : Stepped) (out : Outer) (w : World) (wrote : w.wrote ≡ out.wrote)
   Bytes (Err halts.Fails) = (t ≡ s) × ((k : ℕ) × (b ≡ take k (wrote_since w (world_left r))))
 
   at_none : after ≡ before → (t ≡ s) × (b ≡ [])
-  at_none e = same_told s t [] b (e ∙ ap (λ (l : List ℕ). Some (told s l)) none ∙ ap Some (sym (append-nil (told s []))))
+  at_none e = same_told s t [] b (e ∙ ap (λ (l : List ℕ). Some (start_and_since s l)) none ∙ ap Some (sym (append-nil (start_and_since s []))))
 
   ended_bytes : (end : End) → EndsIn r out new end before after → (t ≡ s) × (b ≡ wrote_since w (world_left r))
   ended_bytes end e =
@@ -75,7 +75,7 @@ module _ (r : Stepped) (out : Outer) (w : World) (wrote : w.wrote ≡ out.wrote)
       (i.0, i.1 ∙ sym (wrote_none w (world_left r) left))
 
   sink_at : (bytes : List ℕ) → (IsSome before → after ≡ append_known before bytes) → (t ≡ s) × (b ≡ bytes)
-  sink_at bytes e = same_told s t bytes b (e refl ∙ ap (λ (l : List ℕ). append_known (Some (told s l)) bytes) none)
+  sink_at bytes e = same_told s t bytes b (e refl ∙ ap (λ (l : List ℕ). append_known (Some (start_and_since s l)) bytes) none)
 
   went_bytes : GoesOnIn r out new before after → (t ≡ s) × (b ≡ wrote_since w (world_left r))
   went_bytes g =
@@ -93,7 +93,7 @@ module _ (r : Stepped) (out : Outer) (w : World) (wrote : w.wrote ≡ out.wrote)
   step_bytes : (done : Result Unit Halt) → StepsIn r out done new before after → Bytes done
   step_bytes (Ok u) g = went_bytes g
   step_bytes (Err (halts.Returns v)) e = ended_bytes Done e
-  step_bytes (Err (halts.Ends x)) e = ended_bytes (end_of x) e
+  step_bytes (Err (halts.Ends x)) e = ended_bytes (end_of_run x) e
   step_bytes (Err halts.Fails) f = failed_bytes f
 
   start_in : (done : Result Unit Halt) → Bytes done → t ≡ s

@@ -9,9 +9,9 @@ use Rattle.abc_base.specs.Sinks.{GrowsByFront}
 use Rattle.abc_machine.proofs.Lined.{told_on, whole_on}
 use Rattle.abc_machine.specs.Logging.{lines_here}
 use Rattle.abc_meaning.specs.Lines.{end_line}
-use Rattle.abc_meaning.specs.Logs.{lines_of, logs_for, then_logs}
+use Rattle.abc_meaning.specs.Logs.{lines_of_step, logs_for, then_logs}
 use Rattle.abc_machine.specs.Logged.{HasAllBut, lines_for}
-use Rattle.abc_machine.specs.Runs.{Begun, IsAt, outer, reached}
+use Rattle.abc_machine.specs.Runs.{Begun, IsRunAt, outer, machine_after}
 use Rattle.abc_machine.specs.Spent.{EndsWith, GoesTo, SpendsAs, reply_for}
 use Rattle.abc_machine.specs.declared.replies.Reply.{Reply}
 use Rattle.abc_machine.specs.declared.replies.Reply.TheVariants as replies
@@ -84,7 +84,7 @@ module _ (l : LinkedFile) (b : Begun) where
   p = setting_of l b.formulas
 
   abbrev at : ℕ → Machine
-  at left = reached p (b.fuel - left) b.first
+  at left = machine_after p (b.fuel - left) b.first
 
   -- the log from there
   abbrev pub rest : ℕ → List ℕ
@@ -96,16 +96,16 @@ module _ (l : LinkedFile) (b : Begun) where
   abbrev last : List ℕ
   last = end_line l.file (runs_for p b.fuel b.first).end
 
-  rest_by : (left : ℕ) (s : State) (r : Stepped) → IsAt l b (suc left) s None None → step_here l (outer l b (suc left)) s ≡ r → rest (suc left) ≡ lines_here l (outer l b (suc left)) s ++ then_logs p r (logs_for p left)
+  rest_by : (left : ℕ) (s : State) (r : Stepped) → IsRunAt l b (suc left) s None None → step_here l (outer l b (suc left)) s ≡ r → rest (suc left) ≡ lines_here l (outer l b (suc left)) s ++ then_logs p r (logs_for p left)
   rest_by left s r a e =
-      ap (λ (q : Machine). lines_of p q (step p q) ++ then_logs p (step p q) (logs_for p left)) (sym a.is)
+      ap (λ (q : Machine). lines_of_step p q (step p q) ++ then_logs p (step p q) (logs_for p left)) (sym a.is)
       ∙ ap (λ (x : Stepped). lines_here l (outer l b (suc left)) s ++ then_logs p x (logs_for p left)) e
 
   -- how all steps end, by those from there
-  end_by : (fuel : ℕ) (s : State) → IsAt l b fuel s None None → (runs_for p b.fuel b.first).end ≡ (runs_for p fuel (at fuel)).end
+  end_by : (fuel : ℕ) (s : State) → IsRunAt l b fuel s None None → (runs_for p b.fuel b.first).end ≡ (runs_for p fuel (at fuel)).end
   end_by fuel s a = ap (λ (e : Ended). e.end) (runs_are p b.fuel b.first ∙ ap ended_of a.goes ∙ sym (runs_are p fuel (at fuel)))
 
-  end_step : (left : ℕ) (s : State) (r : Stepped) → IsAt l b (suc left) s None None → step_here l (outer l b (suc left)) s ≡ r → (runs_for p b.fuel b.first).end ≡ (then_runs r (runs_for p left)).end
+  end_step : (left : ℕ) (s : State) (r : Stepped) → IsRunAt l b (suc left) s None None → step_here l (outer l b (suc left)) s ≡ r → (runs_for p b.fuel b.first).end ≡ (then_runs r (runs_for p left)).end
   end_step left s r a e = end_by (suc left) s a ∙ ap (λ (x : Stepped). (then_runs x (runs_for p left)).end) (stepped l b left s None None a ∙ e)
 
   more_lines : (x y z : Option (List ℕ)) (lines next : List ℕ) → HasAllBut (lines ++ next) all x y → (IsSome y → z ≡ append_known y lines) → HasAllBut next all x z
@@ -119,13 +119,13 @@ module _ (l : LinkedFile) (b : Begun) where
   begun_whole : (x : Option (List ℕ)) → HasAllBut (rest b.fuel) all x x
   begun_whole x =
       let none : 0 ≡ b.fuel - b.fuel = omega arith in
-      record { lines = []; is = ap (λ (n : ℕ). logs_for p b.fuel (reached p n b.first)) none; told = λ some. append_none x }
+      record { lines = []; is = ap (λ (n : ℕ). logs_for p b.fuel (machine_after p n b.first)) none; told = λ some. append_none x }
 
   pub lines_begun : (fuel : ℕ) (x : Option (List ℕ)) → b.fuel ≡ fuel → HasAllBut (rest fuel) all x x
   lines_begun fuel x e = subst (λ (n : ℕ). HasAllBut (rest n) all x x) e (begun_whole x)
 
   module _ (s new : State) (x y z : Option (List ℕ)) where
-    on_suc : (left : ℕ) → IsAt l b (suc left) s None None → GoesTo l (outer l b (suc left)) s new None None → HasAllBut (rest (suc left)) all x y → (IsSome y → z ≡ append_known y (lines_here l (outer l b (suc left)) s)) → HasAllBut (rest left) all x z
+    on_suc : (left : ℕ) → IsRunAt l b (suc left) s None None → GoesTo l (outer l b (suc left)) s new None None → HasAllBut (rest (suc left)) all x y → (IsSome y → z ≡ append_known y (lines_here l (outer l b (suc left)) s)) → HasAllBut (rest left) all x z
     on_suc left a g lines more =
         let out = outer l b (suc left) in
         let q : Machine = machine new (adding g.goes.bytes out) in
@@ -134,14 +134,14 @@ module _ (l : LinkedFile) (b : Begun) where
         more_lines x y z (lines_here l out s) (rest left) (subst (λ (ls : List ℕ). HasAllBut ls all x y) here lines) more
 
     -- the step goes on
-    pub lines_on : (fuel left : ℕ) (r : Result Unit Reply) (u : Unit) → IsAt l b fuel s None None → r ≡ Ok u → SpendsAs l (outer l b fuel) s fuel r new left None None → HasAllBut (rest fuel) all x y → (IsSome y → z ≡ append_known y (lines_for l (outer l b fuel) s fuel)) → HasAllBut (rest left) all x z
+    pub lines_on : (fuel left : ℕ) (r : Result Unit Reply) (u : Unit) → IsRunAt l b fuel s None None → r ≡ Ok u → SpendsAs l (outer l b fuel) s fuel r new left None None → HasAllBut (rest fuel) all x y → (IsSome y → z ≡ append_known y (lines_for l (outer l b fuel) s fuel)) → HasAllBut (rest left) all x z
     lines_on fuel left r u a is spent lines more =
         let d = subst (λ (q : Result Unit Reply). SpendsAs l (outer l b fuel) s fuel q new left None None) is spent in
-        on_suc left (subst (λ (n : ℕ). IsAt l b n s None None) d.0 a) (subst (λ (n : ℕ). GoesTo l (outer l b n) s new None None) d.0 d.1) (subst (λ (n : ℕ). HasAllBut (rest n) all x y) d.0 lines) (subst (λ (n : ℕ). IsSome y → z ≡ append_known y (lines_for l (outer l b n) s n)) d.0 more)
+        on_suc left (subst (λ (n : ℕ). IsRunAt l b n s None None) d.0 a) (subst (λ (n : ℕ). GoesTo l (outer l b n) s new None None) d.0 d.1) (subst (λ (n : ℕ). HasAllBut (rest n) all x y) d.0 lines) (subst (λ (n : ℕ). IsSome y → z ≡ append_known y (lines_for l (outer l b n) s n)) d.0 more)
 
     -- ---- no step more is taken
 
-    end_suc : (left : ℕ) (e : Reply) → IsAt l b (suc left) s None None → EndsWith l (outer l b (suc left)) s new e None None → HasAllBut (rest (suc left)) all x y → (IsSome y → z ≡ append_known y (lines_here l (outer l b (suc left)) s)) → HasAllBut last all x z
+    end_suc : (left : ℕ) (e : Reply) → IsRunAt l b (suc left) s None None → EndsWith l (outer l b (suc left)) s new e None None → HasAllBut (rest (suc left)) all x y → (IsSome y → z ≡ append_known y (lines_here l (outer l b (suc left)) s)) → HasAllBut last all x z
     end_suc left e a d lines more =
         let out = outer l b (suc left) in
         let r : Stepped = Ends (world new out) d.end in
@@ -149,20 +149,20 @@ module _ (l : LinkedFile) (b : Begun) where
         let here : rest (suc left) ≡ lines_here l out s ++ last = rest_by left s r a d.ends.ends ∙ ap (λ (ls : List ℕ). lines_here l out s ++ ls) (sym same) in
         more_lines x y z (lines_here l out s) last (subst (λ (ls : List ℕ). HasAllBut ls all x y) here lines) more
 
-    ends_lines : (fuel left : ℕ) (e : Reply) → fuel ≡ suc left → IsAt l b fuel s None None → EndsWith l (outer l b fuel) s new e None None → HasAllBut (rest fuel) all x y → (IsSome y → z ≡ append_known y (lines_for l (outer l b fuel) s fuel)) → HasAllBut last all x z
+    ends_lines : (fuel left : ℕ) (e : Reply) → fuel ≡ suc left → IsRunAt l b fuel s None None → EndsWith l (outer l b fuel) s new e None None → HasAllBut (rest fuel) all x y → (IsSome y → z ≡ append_known y (lines_for l (outer l b fuel) s fuel)) → HasAllBut last all x z
     ends_lines fuel left e f a d lines more =
-        end_suc left e (subst (λ (n : ℕ). IsAt l b n s None None) f a) (subst (λ (n : ℕ). EndsWith l (outer l b n) s new e None None) f d) (subst (λ (n : ℕ). HasAllBut (rest n) all x y) f lines) (subst (λ (n : ℕ). IsSome y → z ≡ append_known y (lines_for l (outer l b n) s n)) f more)
+        end_suc left e (subst (λ (n : ℕ). IsRunAt l b n s None None) f a) (subst (λ (n : ℕ). EndsWith l (outer l b n) s new e None None) f d) (subst (λ (n : ℕ). HasAllBut (rest n) all x y) f lines) (subst (λ (n : ℕ). IsSome y → z ≡ append_known y (lines_for l (outer l b n) s n)) f more)
 
-    spent_zero : IsAt l b 0 s None None → HasAllBut (rest 0) all x y → (IsSome y → z ≡ append_known y []) → HasAllBut last all x z
+    spent_zero : IsRunAt l b 0 s None None → HasAllBut (rest 0) all x y → (IsSome y → z ≡ append_known y []) → HasAllBut last all x z
     spent_zero a lines more =
         let same : rest 0 ≡ last = ap (end_line l.file) (sym (end_by 0 s a)) in
         more_lines x y z [] last (subst (λ (ls : List ℕ). HasAllBut ls all x y) same lines) more
 
-    spent_lines : (fuel : ℕ) → fuel ≡ 0 → IsAt l b fuel s None None → HasAllBut (rest fuel) all x y → (IsSome y → z ≡ append_known y (lines_for l (outer l b fuel) s fuel)) → HasAllBut last all x z
+    spent_lines : (fuel : ℕ) → fuel ≡ 0 → IsRunAt l b fuel s None None → HasAllBut (rest fuel) all x y → (IsSome y → z ≡ append_known y (lines_for l (outer l b fuel) s fuel)) → HasAllBut last all x z
     spent_lines fuel f a lines more =
-        spent_zero (subst (λ (n : ℕ). IsAt l b n s None None) f a) (subst (λ (n : ℕ). HasAllBut (rest n) all x y) f lines) (subst (λ (n : ℕ). IsSome y → z ≡ append_known y (lines_for l (outer l b n) s n)) f more)
+        spent_zero (subst (λ (n : ℕ). IsRunAt l b n s None None) f a) (subst (λ (n : ℕ). HasAllBut (rest n) all x y) f lines) (subst (λ (n : ℕ). IsSome y → z ≡ append_known y (lines_for l (outer l b n) s n)) f more)
 
-    lines_by : (fuel left : ℕ) (e : Reply) → e ≢ replies.WriteFault → IsAt l b fuel s None None → SpendsAs l (outer l b fuel) s fuel (Err e) new left None None → HasAllBut (rest fuel) all x y → (IsSome y → z ≡ append_known y (lines_for l (outer l b fuel) s fuel)) → HasAllBut last all x z
+    lines_by : (fuel left : ℕ) (e : Reply) → e ≢ replies.WriteFault → IsRunAt l b fuel s None None → SpendsAs l (outer l b fuel) s fuel (Err e) new left None None → HasAllBut (rest fuel) all x y → (IsSome y → z ≡ append_known y (lines_for l (outer l b fuel) s fuel)) → HasAllBut last all x z
     lines_by fuel left (replies.Value v) well a d lines more = ends_lines fuel left (replies.Value v) d.0 a d.1 lines more
     lines_by fuel left (replies.Uncaught thrown) well a d lines more = ends_lines fuel left (replies.Uncaught thrown) d.0 a d.1 lines more
     lines_by fuel left (replies.Profile method index fault) well a d lines more = ends_lines fuel left (replies.Profile method index fault) d.0 a d.1 lines more
@@ -171,16 +171,16 @@ module _ (l : LinkedFile) (b : Begun) where
     lines_by fuel left replies.WriteFault well a d lines more = absurd (well refl)
 
     -- the log but for its last line
-    pub lines_end : (fuel left : ℕ) (r : Result Unit Reply) (e : Reply) → e ≢ replies.WriteFault → IsAt l b fuel s None None → r ≡ Err e → SpendsAs l (outer l b fuel) s fuel r new left None None → HasAllBut (rest fuel) all x y → (IsSome y → z ≡ append_known y (lines_for l (outer l b fuel) s fuel)) → HasAllBut last all x z
+    pub lines_end : (fuel left : ℕ) (r : Result Unit Reply) (e : Reply) → e ≢ replies.WriteFault → IsRunAt l b fuel s None None → r ≡ Err e → SpendsAs l (outer l b fuel) s fuel r new left None None → HasAllBut (rest fuel) all x y → (IsSome y → z ≡ append_known y (lines_for l (outer l b fuel) s fuel)) → HasAllBut last all x z
     lines_end fuel left r e well a is spent lines more =
         lines_by fuel left e well a (subst (λ (q : Result Unit Reply). SpendsAs l (outer l b fuel) s fuel q new left None None) is spent) lines more
 
     -- a front of it, where the step's lines failed
-    rest_front : (fuel : ℕ) → IsAt l b fuel s None None → (more : List ℕ) × (rest fuel ≡ lines_for l (outer l b fuel) s fuel ++ more)
+    rest_front : (fuel : ℕ) → IsRunAt l b fuel s None None → (more : List ℕ) × (rest fuel ≡ lines_for l (outer l b fuel) s fuel ++ more)
     rest_front zero a = (rest zero, refl)
     rest_front (suc left) a = (then_logs p (step_here l (outer l b (suc left)) s) (logs_for p left), rest_by left s (step_here l (outer l b (suc left)) s) a refl)
 
-    pub lines_front : (fuel : ℕ) → IsAt l b fuel s None None → HasAllBut (rest fuel) all x y → (IsSome y → GrowsByFront y z (lines_for l (outer l b fuel) s fuel)) → IsSome x → GrowsByFront x z all
+    pub lines_front : (fuel : ℕ) → IsRunAt l b fuel s None None → HasAllBut (rest fuel) all x y → (IsSome y → GrowsByFront y z (lines_for l (outer l b fuel) s fuel)) → IsSome x → GrowsByFront x z all
     lines_front fuel a lines front some =
         let told = lines.told some in
         let more = rest_front fuel a in

@@ -9,14 +9,14 @@ use Rattle.abc_base.specs.declared.source.Failed.{Failed}
 use Rattle.abc_base.proofs.Writing.{front_first}
 use Rattle.abc_machine.proofs.Sounding.{scripts_few, step_is}
 use Rattle.abc_run_finish.proofs.Turned.{living_is}
-use Rattle.abc_run_finish.specs.Steps.{IsReached, StepsIn, left_here, machine, step_here, stepped}
+use Rattle.abc_run_finish.specs.Steps.{IsReached, StepsIn, left_here, machine, step_here, step_of_turn}
 use Rattle.abc_run_finish.specs.declared.halts.Halt.{Halt}
 use Rattle.abc_run_finish.specs.declared.halts.Halt.TheVariants as halts
 use Rattle.abc_machine.specs.Logging.{LogsAs, LogsLeft, if_written, line_at, lines_here, out_left}
 use Rattle.abc_machine.proofs.Kept.{none_started}
 use Rattle.abc_machine.proofs.Lined.{front_on, whole_on, wrote_none}
 use Rattle.abc_log.specs.Lines.{out_line, start_line}
-use Rattle.abc_meaning.specs.Logs.{instruction_line, line_of, lines_of, world_left, wrote_since}
+use Rattle.abc_meaning.specs.Logs.{step_lines, line_of, lines_of_step, world_left, wrote_since}
 use Rattle.abc_meaning.specs.Step.{runs, step_of}
 use Rattle.abc_meaning.specs.Throwing.{Ends, Stepped, Steps, last_script}
 use Rattle.abc_meaning.proofs.Stepping.{first_starts, steps_change}
@@ -25,7 +25,7 @@ use Rattle.abc_link_names.specs.Linked.{LinkedFile}
 use Rattle.abc_log.proofs.Noting.{same_length}
 use Rattle.abc_log.specs.Starts.{IsOneMore, started_from}
 use Rattle.abc_frames.specs.Frame.{Frame, newest}
-use Rattle.abc_run_state.specs.Outer.{Outer, setting, world}
+use Rattle.abc_run_state.specs.Outer.{Outer, setting_in, world}
 use Rattle.abc_run_state.specs.Turns.{Leaves, Turned}
 use Rattle.abc_meaning.specs.World.{World}
 use Rattle.abc_meaning.specs.Setting.{Setting, routine_of}
@@ -52,7 +52,7 @@ steps_started r out (Err halts.Fails) new x y well f = absurd (well refl)
 
 module _ (l : LinkedFile) (out : Outer) (s : State) where
   abbrev p : Setting
-  p = setting l out
+  p = setting_in l out
 
   pub step_one_more : IsOneMore s.started (world_left (step_here l out s)).started
   step_one_more = subst (λ (n : World). IsOneMore s.started n.started) (left_is (step_here l out s)) (one_more (world s out) (left_by (step_here l out s)) (steps_change p (machine s out)))
@@ -94,13 +94,13 @@ module _ (l : LinkedFile) (out : Outer) (s : State) where
 
   -- ---- an instruction
 
-  line_same : (o : Option ℕ) (f : Frame) → instruction_line o f ≡ line_at o f.method f.place
+  line_same : (o : Option ℕ) (f : Frame) → step_lines o f ≡ line_at o f.method f.place
   line_same (Some n) f = refl
   line_same None f = refl
 
   module _ (reached : IsReached l out s) (live : 0 < length s.frames.living) (left : Result Left Stop) (new : State) (leaves : Leaves l out (runs p (newest s.frames) (routine_of p (newest s.frames).method)) s left new) where
     pub step_left : step_here l out s ≡ left_here l out new left
-    step_left = step_is l out s reached live ∙ ap (λ (t : Turned). stepped p t) leaves
+    step_left = step_is l out s reached live ∙ ap (λ (t : Turned). step_of_turn p t) leaves
 
     -- the scripts that count as started after the instruction do after the step
     pub started_left : (world_left (left_here l out new left)).started ≡ new.started
@@ -112,7 +112,7 @@ module _ (l : LinkedFile) (out : Outer) (s : State) where
     -- the step's lines
     pub lines_are : lines_here l out s ≡ line_at (started_from 0 s.started new.started) (newest s.frames).method (newest s.frames).place ++ out_left l out new left
     lines_are =
-        ap (λ (r : Stepped). lines_of p (machine s out) r) step_left
+        ap (λ (r : Stepped). lines_of_step p (machine s out) r) step_left
         ∙ ap (λ (now : List Bool). line_of p (machine s out) now s.frames.living ++ out_left l out new left) started_left
         ∙ ap (λ (fs : List Frame). line_of p (machine s out) new.started fs ++ out_left l out new left) (living_is s.frames live)
         ∙ ap (λ (line : List ℕ). line ++ out_left l out new left) (line_same (started_from 0 s.started new.started) (newest s.frames))

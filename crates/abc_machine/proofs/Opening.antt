@@ -9,20 +9,20 @@ use Rattle.abc_base.specs.Hosts.{AreFormulas}
 use Rattle.abc_base.specs.declared.formula.Formula.{Formula}
 use Rattle.abc_meaning_sound.proofs.Left.{runs_left}
 use Rattle.abc_meaning.specs.Calls.{replies_for, silent}
-use Rattle.abc_run_calls.specs.Arguments.{IsKnown}
+use Rattle.abc_run_calls.specs.Arguments.{HasArgumentRoom}
 use Rattle.abc_heap_store.specs.Heap.{Heap}
 use Rattle.abc_heap_store.specs.declared.records.Limit.{Limit}
 use Rattle.abc_heap_store.specs.declared.records.Limits.{Limits}
 use Rattle.abc_meaning.specs.Logs.{log, log_if, logs_for, steps, steps_for, steps_if}
 use Rattle.abc_machine.specs.Ended.{RunsAs}
 use Rattle.abc_machine.specs.Logged.{LogsRun}
-use Rattle.abc_machine.specs.Machines.{CanBegin, CanGoOn, IsOpened, Keeps, Opened, kept_world, world_run}
+use Rattle.abc_machine.specs.Machines.{CanBeginRun, CanGoOn, IsOpened, MachineKeeps, Opened, kept_world, world_run}
 use Rattle.abc_machine.proofs.TextsKept.{texts_self}
-use Rattle.abc_machine.specs.Runs.{IsAt, Leaves, outer, reached}
+use Rattle.abc_machine.specs.Runs.{IsRunAt, LeavesWorld, outer, machine_after}
 use Rattle.abc_machine.specs.declared.ends.End.{End}
 use Rattle.abc_machine.specs.declared.ends.End.TheVariants as ends
 use Rattle.abc_machine.proofs.Keeping.{Drops, can_go_on, kept_is}
-use Rattle.abc_meaning.specs.ThrowLaws.{IsVerified}
+use Rattle.abc_meaning.specs.ThrowLaws.{IsVerifiedSetting}
 use Rattle.abc_meaning.specs.Meaning.{Meaning, first_state, first_world, meaning, meaning_if, ran, runs_for, too_small}
 use Rattle.abc_meaning.specs.Sound.{WorldSound}
 use Rattle.abc_meaning.specs.Throwing.{Machine}
@@ -52,7 +52,7 @@ begun_for l fs gs limits s e b = record {
 pub names_kept : (p : Setting) (limits : Limits) (s : State) → IsBegun p limits s → s.arena.formulas ≡ formula_names p.formulas
 names_kept p limits s b = ap (λ (h : Heap). h.formulas) b.heap
 
-pub can_begin : (l : LinkedFile) (fs : List Formula) (limits : Limits) (s : State) → IsBegun (setting l fs) limits s → CanBegin l s
+pub can_begin : (l : LinkedFile) (fs : List Formula) (limits : Limits) (s : State) → IsBegun (setting l fs) limits s → CanBeginRun l s
 can_begin l fs limits s b gs e = subst (λ (x : Limits). IsBegun (setting l gs) x s) (sym (limits_kept (setting l fs) limits s b)) (begun_for l fs gs limits s (sym (names_kept (setting l fs) limits s b) ∙ sym e) b)
 
 -- ---- the state that a run begins with is reached
@@ -61,17 +61,17 @@ pub append_none : (known : Option (List ℕ)) → known ≡ append_known known [
 append_none None = refl
 append_none (Some bs) = ap Some (sym (append-nil bs))
 
-pub verified_setting : (l : LinkedFile) (fs : List Formula) → IsLinkedFile l → AllTyped l → AreFormulas fs → IsVerified (setting l fs)
+pub verified_setting : (l : LinkedFile) (fs : List Formula) → IsLinkedFile l → AllTyped l → AreFormulas fs → IsVerifiedSetting (setting l fs)
 verified_setting l fs linked typed host = record { fits = linked.fits; linked = linked; typed = typed; host = host }
 
 -- no step was taken
-pub at_start : (l : LinkedFile) (fs : List Formula) (s : State) (fuel : ℕ) (x : Option (List ℕ)) → IsReached l (record { formulas = fs; wrote = [] }) s → IsAt l (record { formulas = fs; first = machine s (record { formulas = fs; wrote = [] }); fuel = fuel }) fuel s x x
+pub at_start : (l : LinkedFile) (fs : List Formula) (s : State) (fuel : ℕ) (x : Option (List ℕ)) → IsReached l (record { formulas = fs; wrote = [] }) s → IsRunAt l (record { formulas = fs; first = machine s (record { formulas = fs; wrote = [] }); fuel = fuel }) fuel s x x
 at_start l fs s fuel x r =
     let p = setting l fs in
     let first = machine s (record { formulas = fs; wrote = [] }) in
     let none : fuel - fuel ≡ 0 = omega arith in
-    let out : outer l (record { formulas = fs; first = first; fuel = fuel }) fuel ≡ record { formulas = fs; wrote = [] } = ap (λ (n : ℕ). record { formulas = fs; wrote = (reached p n first).world.wrote }) none in
-    let there : reached p (fuel - fuel) first ≡ first = ap (λ (n : ℕ). reached p n first) none in
+    let out : outer l (record { formulas = fs; first = first; fuel = fuel }) fuel ≡ record { formulas = fs; wrote = [] } = ap (λ (n : ℕ). record { formulas = fs; wrote = (machine_after p n first).world.wrote }) none in
+    let there : machine_after p (fuel - fuel) first ≡ first = ap (λ (n : ℕ). machine_after p n first) none in
     record {
       few = omega arith;
       is = ap (machine s) out ∙ sym there;
@@ -82,9 +82,9 @@ at_start l fs s fuel x r =
       can = subst (λ (o : Outer). IsReached l o s) (sym out) r;
     }
 
-at_first : (l : LinkedFile) (fs : List Formula) (limits : Limits) (s : State) (fuel : ℕ) (x : Option (List ℕ)) → IsVerified (setting l fs) → limits.cells < 2 ^ 32 → IsBegun (setting l fs) limits s → IsAt l (record { formulas = fs; first = first_state (setting l fs) limits; fuel = fuel }) fuel s x x
+at_first : (l : LinkedFile) (fs : List Formula) (limits : Limits) (s : State) (fuel : ℕ) (x : Option (List ℕ)) → IsVerifiedSetting (setting l fs) → limits.cells < 2 ^ 32 → IsBegun (setting l fs) limits s → IsRunAt l (record { formulas = fs; first = first_state (setting l fs) limits; fuel = fuel }) fuel s x x
 at_first l fs limits s fuel x v counted b =
-    subst (λ (q : Machine). IsAt l (record { formulas = fs; first = q; fuel = fuel }) fuel s x x) (machine_first (setting l fs) limits s b) (at_start l fs s fuel x (reached_first l fs limits s v counted b))
+    subst (λ (q : Machine). IsRunAt l (record { formulas = fs; first = q; fuel = fuel }) fuel s x x) (machine_first (setting l fs) limits s b) (at_start l fs s fuel x (reached_first l fs limits s v counted b))
 
 -- ---- what a first run comes to
 
@@ -104,7 +104,7 @@ steps_is p limits fuel e = ap (λ (o : Option Limit). steps_if o (steps_for p fu
 abbrev pub viewed : LinkedFile → State → Option End → Bool → (steps : ℕ) → Opened
 viewed l s e closed n = record { linked = l; names = s.arena.formulas; limits = s.arena.limits; ended = e; closed = closed; world = kept_world s; steps = n }
 
-module _ (l k : LinkedFile) (fs : List Formula) (s : State) (fuel : ℕ) (e : Option End) (closed : Bool) (seen : List Bool) (n : ℕ) (m : Opened) (same : l ≡ k) (shown : viewed k s e closed n ≡ m) (fresh : e ≡ None) (keeps : Keeps k s seen e closed) (named : m.ended ≡ None → formula_names fs ≡ m.names) where
+module _ (l k : LinkedFile) (fs : List Formula) (s : State) (fuel : ℕ) (e : Option End) (closed : Bool) (seen : List Bool) (n : ℕ) (m : Opened) (same : l ≡ k) (shown : viewed k s e closed n ≡ m) (fresh : e ≡ None) (keeps : MachineKeeps k s seen e closed) (named : m.ended ≡ None → formula_names fs ≡ m.names) where
   names : formula_names fs ≡ s.arena.formulas
   names = named (ap (λ (o : Opened). o.ended) (sym shown) ∙ fresh) ∙ ap (λ (o : Opened). o.names) (sym shown)
 
@@ -136,13 +136,13 @@ module _ (l k : LinkedFile) (fs : List Formula) (s : State) (fuel : ℕ) (e : Op
       subst (λ (o : Opened). fuel - left ≡ steps (setting o.linked fs) o.limits fuel) shown (subst (λ (i : LinkedFile). fuel - left ≡ steps (setting i fs) s.arena.limits fuel) same there)
 
   module _ (linked : IsLinkedFile l) (typed : IsChecked k) (host : AreFormulas fs) where
-    verified : IsVerified (setting l fs)
+    verified : IsVerifiedSetting (setting l fs)
     verified = verified_setting l fs linked (all_typed l linked (subst IsChecked (sym same) typed)) host
 
     first_reached : IsReached l (record { formulas = fs; wrote = [] }) s
     first_reached = reached_first l fs s.arena.limits s verified (keeps.begins fresh).1 is_first
 
-    pub begins_at : (x : Option (List ℕ)) → IsAt l (record { formulas = fs; first = first_state (setting l fs) s.arena.limits; fuel = fuel }) fuel s x x
+    pub begins_at : (x : Option (List ℕ)) → IsRunAt l (record { formulas = fs; first = first_state (setting l fs) s.arena.limits; fuel = fuel }) fuel s x x
     begins_at x = at_first l fs s.arena.limits s fuel x verified (keeps.begins fresh).1 is_first
 
     -- what it leaves is sound
@@ -152,15 +152,15 @@ module _ (l k : LinkedFile) (fs : List Formula) (s : State) (fuel : ℕ) (e : Op
 
     -- ---- the state after the run, and that without its frames
 
-    module _ (t u : State) (now : List Bool) (end : End) (leaves : end ≢ ends.WriteFault → Leaves (setting l fs) left_world t) (drops : Drops t u) (limit : t.given.limit ≡ s.given.limit) where
-      pub run_keeps : Keeps k u now (Some end) closed
+    module _ (t u : State) (now : List Bool) (end : End) (leaves : end ≢ ends.WriteFault → LeavesWorld (setting l fs) left_world t) (drops : Drops t u) (limit : t.given.limit ≡ s.given.limit) where
+      pub run_keeps : MachineKeeps k u now (Some end) closed
       run_keeps = record {
         begins = λ q. absurd cc;
         noted = λ q. absurd cc;
         goes_on = λ q still.
             let done : end ≡ ends.Done = cc in
             let there = leaves (λ f. absurd (let two : ends.Done ≡ ends.WriteFault = sym done ∙ f in cc)) in
-            subst (λ (i : LinkedFile). CanGoOn i u) same (can_go_on l fs left_world t u left_sound there drops (subst (IsKnown l) (sym limit) first_reached.known));
+            subst (λ (i : LinkedFile). CanGoOn i u) same (can_go_on l fs left_world t u left_sound there drops (subst (HasArgumentRoom l) (sym limit) first_reached.known));
       }
 
       pub run_world : end ≢ ends.WriteFault → kept_world u ≡ silent (world_run m fs fuel)
@@ -174,7 +174,7 @@ module _ (l k : LinkedFile) (fs : List Formula) (s : State) (fuel : ℕ) (e : Op
 
 -- ---- a machine that is opened
 
-pub open_keeps : (l : LinkedFile) (fs : List Formula) (limits : Limits) (s : State) (seen : List Bool) → IsBegun (setting l fs) limits s → limits.cells < 2 ^ 32 → seen ≡ replicate (length l.file.scripts) false → Keeps l s seen None false
+pub open_keeps : (l : LinkedFile) (fs : List Formula) (limits : Limits) (s : State) (seen : List Bool) → IsBegun (setting l fs) limits s → limits.cells < 2 ^ 32 → seen ≡ replicate (length l.file.scripts) false → MachineKeeps l s seen None false
 open_keeps l fs limits s seen b counted none = record {
   begins = λ e. (can_begin l fs limits s b, subst (λ (x : Limits). x.cells < 2 ^ 32) (sym (limits_kept (setting l fs) limits s b)) counted);
   noted = λ e. none ∙ sym b.started;

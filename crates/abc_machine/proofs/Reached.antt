@@ -3,7 +3,7 @@ use Rattle.std.proofs.Common.{◌≡◌, ◌≢◌, ℕ, ◌<◌, ◌^◌, List,
 use Rattle.std.specs.Prelude.{Ok}
 use Rattle.std.specs.declared.option.Option.{Option}
 use Rattle.std.specs.declared.result.Result.{Result}
-use Rattle.abc_meaning.specs.Calls.{returned, value_returned}
+use Rattle.abc_meaning.specs.Calls.{value_at_end, value_returned}
 use Rattle.abc_heap_values.specs.declared.values.Value.{Value}
 use Rattle.abc_run_dispatch.proofs.Led.{runs_here}
 use Rattle.abc_run_dispatch.specs.Ready.{CanStep, IsEquipped}
@@ -14,7 +14,7 @@ use Rattle.abc_meaning.specs.Running.{IsRunning}
 use Rattle.abc_machine.proofs.Sounding.{step_is, turn_fair}
 use Rattle.abc_run_finish.proofs.Turned.{entered_gives_none, living_is}
 use Rattle.abc_run_finish.specs.Fairly.{IsFairTurn}
-use Rattle.abc_run_finish.specs.Steps.{IsReached, StepsAs, StepsIn, left_here, stepped}
+use Rattle.abc_run_finish.specs.Steps.{IsReached, StepsAs, StepsIn, left_here, step_of_turn}
 use Rattle.abc_run_finish.specs.declared.halts.Halt.{Halt}
 use Rattle.abc_meaning.specs.Sound.{IsSound}
 use Rattle.abc_meaning.specs.Step.{runs}
@@ -24,10 +24,10 @@ use Rattle.abc_link_names.specs.Linked.{LinkedFile}
 use Rattle.abc_verify_typing.specs.Instructions.{opcode}
 use Rattle.abc_frames.specs.Frame.{Frame, Frames, first_size, newest, newest_size, room_for, under}
 use Rattle.abc_meaning.specs.At.{Above, Act, Goes, Returns, Stays}
-use Rattle.abc_run_state.specs.Outer.{Outer, setting, world}
+use Rattle.abc_run_state.specs.Outer.{Outer, setting_in, world}
 use Rattle.abc_run_state.specs.Standing.{IsSet}
 use Rattle.abc_run_state.specs.Stops.{IsOpen}
-use Rattle.abc_run_state.specs.Turns.{Gives, Leaves, Turned, answered, bared, size_for, turned}
+use Rattle.abc_run_state.specs.Turns.{Gives, Leaves, Turned, turn_of_answer, bare_newest, size_for, turn_of}
 use Rattle.abc_meaning.specs.World.{Errs, Faults, Fills, Outcome, Sticks, Stopped, Throws, Went, World}
 use Rattle.abc_meaning.specs.Setting.{Setting, routine_of}
 use Rattle.abc_run_state.specs.declared.state.Left.{Left}
@@ -59,7 +59,7 @@ open_of (Stopped n Sticks) h = h n refl
 
 -- ---- an act that gives a value back returned it
 
-gives_returned : (p : Setting) (q : Frames) (o : Outcome Act) (n : World) (k : Frames) (v : Value) → turned p q o ≡ Gives n k v → value_returned o ≡ v
+gives_returned : (p : Setting) (q : Frames) (o : Outcome Act) (n : World) (k : Frames) (v : Value) → turn_of p q o ≡ Gives n k v → value_returned o ≡ v
 gives_returned p q (Went w (Goes (Stays f))) n k v e = cc
 gives_returned p q (Went w (Goes (Above g f))) n k v e = absurd (entered_gives_none (room_for q (size_for p g)) (size_for p g) w g f q n k v e)
 gives_returned p q (Went w (Returns x)) n k v e = cc
@@ -67,7 +67,7 @@ gives_returned p q (Stopped w why) n k v e = cc
 
 module _ (l : LinkedFile) (out : Outer) (s : State) (reached : IsReached l out s) (live : 0 < length s.frames.living) where
   abbrev p : Setting
-  p = setting l out
+  p = setting_in l out
 
   abbrev here : World
   here = world s out
@@ -115,26 +115,26 @@ module _ (l : LinkedFile) (out : Outer) (s : State) (reached : IsReached l out s
   -- ---- what the instruction left
 
   module _ (left : Result Left Stop) (new : State) (leaves : Leaves l out (runs p top (routine_of p top.method)) s left new) where
-    pub fair_left : IsFairTurn p (answered p left (world new out) new.frames)
+    pub fair_left : IsFairTurn p (turn_of_answer p left (world new out) new.frames)
     fair_left = subst (IsFairTurn p) leaves (turn_fair l out s reached live)
 
     -- what is done with it is the step
     pub steps_left : (r : Result Unit Halt) (last : State) (before now : Option (List ℕ)) → StepsIn (left_here l out new left) out r last before now → StepsAs l out s r last before now
     steps_left r last before now =
-        let same = step_is l out s reached live ∙ ap (λ (t : Turned). stepped p t) leaves in
+        let same = step_is l out s reached live ∙ ap (λ (t : Turned). step_of_turn p t) leaves in
         subst (λ (x : Stepped). StepsIn x out r last before now) (sym same)
 
     -- what it left to be given back is what it returned
-    pub returned_left : (v : Value) → left ≡ Ok (lefts.Returns v) → returned p here s.frames.living ≡ v
+    pub returned_left : (v : Value) → left ≡ Ok (lefts.Returns v) → value_at_end p here s.frames.living ≡ v
     returned_left v is =
         let o = runs p top (routine_of p top.method) here in
-        let gives : turned p s.frames o ≡ Gives (world new out) (bared new.frames) v = leaves ∙ ap (λ (x : Result Left Stop). answered p x (world new out) new.frames) is in
-        ap (λ (fs : List Frame). returned p here fs) (living_is s.frames live) ∙ gives_returned p s.frames o (world new out) (bared new.frames) v gives
+        let gives : turn_of p s.frames o ≡ Gives (world new out) (bare_newest new.frames) v = leaves ∙ ap (λ (x : Result Left Stop). turn_of_answer p x (world new out) new.frames) is in
+        ap (λ (fs : List Frame). value_at_end p here fs) (living_is s.frames live) ∙ gives_returned p s.frames o (world new out) (bare_newest new.frames) v gives
 
   -- where it left nothing, the step is done
   module _ (left : Result Left Stop) (new : State) (leaves : Leaves l out (runs p top (routine_of p top.method)) s left new) (goes : left ≡ Ok lefts.Goes) where
     pub goes_sized : IsSized p new.arena.limits new.frames
-    goes_sized = (subst (λ (x : Result Left Stop). IsFairTurn p (answered p x (world new out) new.frames)) goes (fair_left left new leaves)).held.sized
+    goes_sized = (subst (λ (x : Result Left Stop). IsFairTurn p (turn_of_answer p x (world new out) new.frames)) goes (fair_left left new leaves)).held.sized
 
     pub goes_step : (before : Option (List ℕ)) → StepsAs l out s (Ok tt) new before before
     goes_step before =

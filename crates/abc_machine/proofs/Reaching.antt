@@ -5,13 +5,13 @@ use Rattle.std.specs.Io.KnownBytes.{append_known}
 use Rattle.std.specs.declared.option.Option.{Option}
 use Rattle.abc_base.specs.Sinks.{GrowsByFront}
 use Rattle.abc_meaning_sound.proofs.Appended.{calls_append}
-use Rattle.abc_meaning.specs.Calls.{EndsAs as RepliesEnd, Replied, replies, replies_for, returned, then_replies}
+use Rattle.abc_meaning.specs.Calls.{EndsAs as RepliesEnd, Replied, replies, replies_for, value_at_end, then_replies}
 use Rattle.abc_heap_values.specs.declared.values.Value.{Value}
 use Rattle.abc_meaning.specs.Logs.{steps_for, then_counts}
 use Rattle.abc_machine.specs.Replied.{IsReplyOf, RepliesAs, failed, replied}
 use Rattle.abc_machine.proofs.TextsKept.{texts_on, went_texts}
-use Rattle.abc_machine.specs.Runs.{Begun, IsAt, Leaves, on, outer, reached}
-use Rattle.abc_machine.specs.Spent.{EndsWith, GoesTo, Rests, reply_by}
+use Rattle.abc_machine.specs.Runs.{Begun, IsRunAt, LeavesWorld, on, outer, machine_after}
+use Rattle.abc_machine.specs.Spent.{EndsWith, GoesTo, SpendsNothing, reply_by}
 use Rattle.abc_machine.specs.declared.replies.Reply.{Reply}
 use Rattle.abc_machine.specs.declared.replies.Reply.TheVariants.{FuelSpent as Spent, WriteFault}
 use Rattle.abc_meaning.specs.Step.{step}
@@ -64,14 +64,14 @@ then_is v w Stuck go = refl
 -- what comes of all steps from a state on: what is answered and written, and the state that is left
 pub record Comes (p : Setting) (r : Replied) (x z : Option (List ℕ)) (reply : Reply) (new : State) : Type 0 where
   pub answer : RepliesAs r x z reply
-  pub leaves : reply ≢ WriteFault → Leaves p r.world new
+  pub leaves : reply ≢ WriteFault → LeavesWorld p r.world new
 
 module _ (l : LinkedFile) (b : Begun) where
   abbrev p : Setting
   p = record { linked = l; formulas = b.formulas }
 
   abbrev at : ℕ → Machine
-  at left = reached p (b.fuel - left) b.first
+  at left = machine_after p (b.fuel - left) b.first
 
   -- what comes of all steps
   abbrev pub in_all : Replied
@@ -81,38 +81,38 @@ module _ (l : LinkedFile) (b : Begun) where
   fewer left h = omega (arith, h)
 
   -- the step from there
-  pub stepped : (left : ℕ) (s : State) (x y : Option (List ℕ)) → IsAt l b (suc left) s x y → step p (at (suc left)) ≡ step_here l (outer l b (suc left)) s
+  pub stepped : (left : ℕ) (s : State) (x y : Option (List ℕ)) → IsRunAt l b (suc left) s x y → step p (at (suc left)) ≡ step_here l (outer l b (suc left)) s
   stepped left s x y a = ap (step p) (sym a.is)
 
-  pub next_is : (left : ℕ) (s : State) (x y : Option (List ℕ)) (r : Stepped) → IsAt l b (suc left) s x y → step_here l (outer l b (suc left)) s ≡ r → at left ≡ on r
-  next_is left s x y r a e = ap (λ (n : ℕ). reached p n b.first) (fewer left a.few) ∙ ap on (stepped left s x y a ∙ e)
+  pub next_is : (left : ℕ) (s : State) (x y : Option (List ℕ)) (r : Stepped) → IsRunAt l b (suc left) s x y → step_here l (outer l b (suc left)) s ≡ r → at left ≡ on r
+  next_is left s x y r a e = ap (λ (n : ℕ). machine_after p n b.first) (fewer left a.few) ∙ ap on (stepped left s x y a ∙ e)
 
   -- what its frame would return
   abbrev value_at : ℕ → Value
-  value_at left = returned p (at left).world (at left).frames
+  value_at left = value_at_end p (at left).world (at left).frames
 
   -- what comes of all steps, by the one from there
-  meant_by : (left : ℕ) (s : State) (x y : Option (List ℕ)) (r : Stepped) → IsAt l b (suc left) s x y → step_here l (outer l b (suc left)) s ≡ r → in_all ≡ then_replies (value_at (suc left)) r (replies_for p left)
+  meant_by : (left : ℕ) (s : State) (x y : Option (List ℕ)) (r : Stepped) → IsRunAt l b (suc left) s x y → step_here l (outer l b (suc left)) s ≡ r → in_all ≡ then_replies (value_at (suc left)) r (replies_for p left)
   meant_by left s x y r a e = a.goes ∙ ap (λ (q : Stepped). then_replies (value_at (suc left)) q (replies_for p left)) (stepped left s x y a ∙ e)
 
   -- how many steps all take, by the one from there
   abbrev pub count_all : ℕ
   count_all = steps_for p b.fuel b.first
 
-  pub counted_by : (left : ℕ) (s : State) (x y : Option (List ℕ)) (r : Stepped) → IsAt l b (suc left) s x y → step_here l (outer l b (suc left)) s ≡ r → count_all ≡ (b.fuel - suc left) + then_counts r (steps_for p left)
+  pub counted_by : (left : ℕ) (s : State) (x y : Option (List ℕ)) (r : Stepped) → IsRunAt l b (suc left) s x y → step_here l (outer l b (suc left)) s ≡ r → count_all ≡ (b.fuel - suc left) + then_counts r (steps_for p left)
   counted_by left s x y r a e = a.counts ∙ ap (λ (q : Stepped). (b.fuel - suc left) + then_counts q (steps_for p left)) (stepped left s x y a ∙ e)
 
-  counted_on : (left : ℕ) (s : State) (x y : Option (List ℕ)) (q : Machine) → IsAt l b (suc left) s x y → step_here l (outer l b (suc left)) s ≡ Steps q → count_all ≡ (b.fuel - left) + steps_for p left (at left)
+  counted_on : (left : ℕ) (s : State) (x y : Option (List ℕ)) (q : Machine) → IsRunAt l b (suc left) s x y → step_here l (outer l b (suc left)) s ≡ Steps q → count_all ≡ (b.fuel - left) + steps_for p left (at left)
   counted_on left s x y q a e =
       let few = a.few in
       let all : count_all ≡ (b.fuel - suc left) + suc (steps_for p left q) = counted_by left s x y (Steps q) a e in
       let same : steps_for p left (at left) ≡ steps_for p left q = ap (steps_for p left) (next_is left s x y (Steps q) a e) in
       omega (arith, few, all, same, fewer left few)
 
-  pub goes_at : (fuel left : ℕ) (s new : State) (x y z : Option (List ℕ)) → fuel ≡ suc left → IsAt l b fuel s x y → GoesTo l (outer l b fuel) s new y z → IsAt l b left new x z
-  goes_at fuel left s new x y z f a g = go (subst (λ (n : ℕ). IsAt l b n s x y) f a) (subst (λ (n : ℕ). GoesTo l (outer l b n) s new y z) f g)
+  pub goes_at : (fuel left : ℕ) (s new : State) (x y z : Option (List ℕ)) → fuel ≡ suc left → IsRunAt l b fuel s x y → GoesTo l (outer l b fuel) s new y z → IsRunAt l b left new x z
+  goes_at fuel left s new x y z f a g = go (subst (λ (n : ℕ). IsRunAt l b n s x y) f a) (subst (λ (n : ℕ). GoesTo l (outer l b n) s new y z) f g)
     where
-      go : IsAt l b (suc left) s x y → GoesTo l (outer l b (suc left)) s new y z → IsAt l b left new x z
+      go : IsRunAt l b (suc left) s x y → GoesTo l (outer l b (suc left)) s new y z → IsRunAt l b left new x z
       go a g =
           let out = outer l b (suc left) in
           let q : Machine = machine new (adding g.goes.bytes out) in
@@ -130,32 +130,32 @@ module _ (l : LinkedFile) (b : Begun) where
 
   -- ---- no step more is taken
 
-  came : (r : Replied) (reply : Reply) (x z : Option (List ℕ)) (new : State) → in_all ≡ r → IsReplyOf r.reply reply → (IsSome x → z ≡ append_known x r.world.wrote) → Leaves p r.world new → Comes p in_all x z reply new
+  came : (r : Replied) (reply : Reply) (x z : Option (List ℕ)) (new : State) → in_all ≡ r → IsReplyOf r.reply reply → (IsSome x → z ≡ append_known x r.world.wrote) → LeavesWorld p r.world new → Comes p in_all x z reply new
   came r reply x z new g is sink leaves = subst (λ (q : Replied). Comes p q x z reply new) (sym g) (record { answer = replied r reply is sink; leaves = λ f. leaves })
 
-  pub spent_at : (s new : State) (x y z : Option (List ℕ)) (fuel : ℕ) → fuel ≡ 0 → IsAt l b fuel s x y → Rests s new y z → Comes p in_all x z Spent new
-  spent_at s new x y z fuel f a rests = go (subst (λ (n : ℕ). IsAt l b n s x y) f a)
+  pub spent_at : (s new : State) (x y z : Option (List ℕ)) (fuel : ℕ) → fuel ≡ 0 → IsRunAt l b fuel s x y → SpendsNothing s new y z → Comes p in_all x z Spent new
+  spent_at s new x y z fuel f a rests = go (subst (λ (n : ℕ). IsRunAt l b n s x y) f a)
     where
-      go : IsAt l b 0 s x y → Comes p in_all x z Spent new
+      go : IsRunAt l b 0 s x y → Comes p in_all x z Spent new
       go a =
-          let here : Leaves p (at 0).world s = record { heap = ap (λ (m : Machine). m.world.heap) a.is; started = ap (λ (m : Machine). m.world.started) a.is; sized = a.can.sized } in
-          came (replies (at 0).world (RepliesEnd FuelSpent)) Spent x z new a.goes refl (λ some. rests.sink ∙ a.sink some) (subst (Leaves p (at 0).world) (sym rests.state) here)
+          let here : LeavesWorld p (at 0).world s = record { heap = ap (λ (m : Machine). m.world.heap) a.is; started = ap (λ (m : Machine). m.world.started) a.is; sized = a.can.sized } in
+          came (replies (at 0).world (RepliesEnd FuelSpent)) Spent x z new a.goes refl (λ some. rests.sink ∙ a.sink some) (subst (LeavesWorld p (at 0).world) (sym rests.state) here)
 
-  pub ends_at : (s new : State) (x y z : Option (List ℕ)) (fuel left : ℕ) (reply : Reply) → fuel ≡ suc left → IsAt l b fuel s x y → EndsWith l (outer l b fuel) s new reply y z → Comes p in_all x z reply new
-  ends_at s new x y z fuel left reply f a e = go (subst (λ (n : ℕ). IsAt l b n s x y) f a) (subst (λ (n : ℕ). EndsWith l (outer l b n) s new reply y z) f e)
+  pub ends_at : (s new : State) (x y z : Option (List ℕ)) (fuel left : ℕ) (reply : Reply) → fuel ≡ suc left → IsRunAt l b fuel s x y → EndsWith l (outer l b fuel) s new reply y z → Comes p in_all x z reply new
+  ends_at s new x y z fuel left reply f a e = go (subst (λ (n : ℕ). IsRunAt l b n s x y) f a) (subst (λ (n : ℕ). EndsWith l (outer l b n) s new reply y z) f e)
     where
-      go : IsAt l b (suc left) s x y → EndsWith l (outer l b (suc left)) s new reply y z → Comes p in_all x z reply new
+      go : IsRunAt l b (suc left) s x y → EndsWith l (outer l b (suc left)) s new reply y z → Comes p in_all x z reply new
       go a e =
           let out = outer l b (suc left) in
-          let value : returned p (world s out) s.frames.living ≡ value_at (suc left) = ap (λ (m : Machine). returned p m.world m.frames) a.is in
+          let value : value_at_end p (world s out) s.frames.living ≡ value_at (suc left) = ap (λ (m : Machine). value_at_end p m.world m.frames) a.is in
           let is : IsReplyOf (reply_by (value_at (suc left)) e.end) reply = subst (λ (v : Value). IsReplyOf (reply_by v e.end) reply) value e.is in
           let g : in_all ≡ replies (world new out) (reply_by (value_at (suc left)) e.end) = meant_by left s x y (Ends (world new out) e.end) a e.ends.ends ∙ then_is (value_at (suc left)) (world new out) e.end (replies_for p left) in
           came (replies (world new out) (reply_by (value_at (suc left)) e.end)) reply x z new g is (λ some. e.ends.sink ∙ a.sink some) (record { heap = refl; started = refl; sized = e.sized })
 
-  pub fails_at : (s new : State) (x y z : Option (List ℕ)) (fuel left : ℕ) → fuel ≡ suc left → IsAt l b fuel s x y → FailsAs l (outer l b fuel) s new y z → Comes p in_all x z WriteFault new
-  fails_at s new x y z fuel left f a e = go (subst (λ (n : ℕ). IsAt l b n s x y) f a) (subst (λ (n : ℕ). FailsAs l (outer l b n) s new y z) f e)
+  pub fails_at : (s new : State) (x y z : Option (List ℕ)) (fuel left : ℕ) → fuel ≡ suc left → IsRunAt l b fuel s x y → FailsAs l (outer l b fuel) s new y z → Comes p in_all x z WriteFault new
+  fails_at s new x y z fuel left f a e = go (subst (λ (n : ℕ). IsRunAt l b n s x y) f a) (subst (λ (n : ℕ). FailsAs l (outer l b n) s new y z) f e)
     where
-      go : IsAt l b (suc left) s x y → FailsAs l (outer l b (suc left)) s new y z → Comes p in_all x z WriteFault new
+      go : IsRunAt l b (suc left) s x y → FailsAs l (outer l b (suc left)) s new y z → Comes p in_all x z WriteFault new
       go a e =
           let out = outer l b (suc left) in
           let r = replies_for p left e.next in

@@ -1,13 +1,13 @@
 -- What is relied on follows from soundness.
 use Rattle.std.proofs.Common.{◌≡◌, ◌<◌, ◌^◌, List, [], ◌∷◌, length, take, reverse, refl, ap, ◌∙◌, subst, arith}
 use Rattle.abc_heap_values.specs.declared.values.Value.{Value}
-use Rattle.abc_run_finish.specs.Ending.{IsFree}
+use Rattle.abc_run_finish.specs.Ending.{IsUnstuck}
 use Rattle.abc_meaning_sound.proofs.Fared.{acts_fair, news_fair, starts_fair}
 use Rattle.abc_meaning_sound.proofs.Waited.{waiting_frames}
 use Rattle.abc_meaning.specs.Fair.{IsFairAs, IsFairPart, IsLeft, IsWaiting}
 use Rattle.abc_heap_store.specs.Heap.{Heap}
 use Rattle.abc_run_state.proofs.Keeping.{there_grown}
-use Rattle.abc_meaning.specs.ThrowLaws.{IsVerified}
+use Rattle.abc_meaning.specs.ThrowLaws.{IsVerifiedSetting}
 use Rattle.abc_meaning.specs.Sound.{AreTypings, IsSound, Typings, WaitSound, WorldSound}
 use Rattle.abc_meaning.specs.Step.{resumes, runs, step_of}
 use Rattle.abc_meaning.specs.Throwing.{Machine, Stepped, last_script}
@@ -19,12 +19,12 @@ use Rattle.abc_frames.specs.Frame.{Frame, newest, under, waiting}
 use Rattle.abc_frames.specs.declared.records.Wait.{Wait}
 use Rattle.abc_frames.specs.declared.records.Wait.TheVariants as waits
 use Rattle.abc_meaning.specs.At.{Act, Goes, Returns}
-use Rattle.abc_run_state.specs.Outer.{Outer, setting, world}
-use Rattle.abc_run_state.specs.Turns.{turned}
-use Rattle.abc_meaning.specs.Entering.{starts}
+use Rattle.abc_run_state.specs.Outer.{Outer, setting_in, world}
+use Rattle.abc_run_state.specs.Turns.{turn_of}
+use Rattle.abc_meaning.specs.Entering.{starts_script}
 use Rattle.abc_meaning.specs.Making.{new}
 use Rattle.abc_meaning.specs.Setting.{Setting, routine_of}
-use Rattle.abc_meaning.specs.World.{Outcome, Stopped, Went, World, and_then, done}
+use Rattle.abc_meaning.specs.World.{Outcome, Stopped, Went, World, and_then, pure}
 use Rattle.abc_run_state.specs.declared.state.State.{State}
 use Rattle.abc_verify_typing.proofs.Lists.{Each-reverse}
 use Rattle.abc_verify_typing.specs.Lists.{Each}
@@ -32,7 +32,7 @@ use Rattle.abc_meaning_sound.proofs.Filed.{definitions, some_script}
 use Rattle.abc_meaning_sound.proofs.Never.{stays_sound}
 use Rattle.abc_meaning_sound.proofs.Lists.{each_at}
 use Rattle.abc_run_finish.specs.Fairly.{CanStart, FirstCanTake, HasArguments, IsFairTurn}
-use Rattle.abc_run_finish.specs.Steps.{IsReached, machine, step_here, stepped}
+use Rattle.abc_run_finish.specs.Steps.{IsReached, machine, step_here, step_of_turn}
 use Rattle.abc_run_finish.proofs.Stepped.{free_of}
 use Rattle.abc_run_finish.proofs.Turned.{MayReturn, acted_is, living_is, turn_held}
 
@@ -50,13 +50,13 @@ each_grown l a b (v ∷ vs) g e = (exists_grown l a b v g e.0, each_grown l a b 
 left_self : (p : Setting) (n : World) → WorldSound p n → IsLeft p n n
 left_self p n s = record { sound = s; grows = grows_self n.heap; limits = refl }
 
-fair_then : {X Y : Type 0} (p : Setting) (w : World) (o : Outcome X) (f : X → Y) → IsFairPart p w o → IsFairPart p w (and_then o (λ x. done (f x)))
+fair_then : {X Y : Type 0} (p : Setting) (w : World) (o : Outcome X) (f : X → Y) → IsFairPart p w o → IsFairPart p w (and_then o (λ x. pure (f x)))
 fair_then p w (Went n x) f h = h
 fair_then p w (Stopped n why) f h = h
 
 -- ---- what a frame that waits does with what returns: in world `w` it is sound, and in `n` the value comes
 
-module _ (p : Setting) (typings : Typings) (w n : World) (v : Value) (verified : IsVerified p) (typed : AreTypings p typings) (left : IsLeft p w n) (value : Exists p.linked n.heap v) where
+module _ (p : Setting) (typings : Typings) (w n : World) (v : Value) (verified : IsVerifiedSetting p) (typed : AreTypings p typings) (left : IsLeft p w n) (value : Exists p.linked n.heap v) where
   arguments_by : (f : Frame) (wait : Wait) → WaitSound p typings w.heap f wait → HasArguments wait f
   arguments_by f waits.Push s = tt
   arguments_by f waits.Drop s = tt
@@ -90,7 +90,7 @@ module _ (p : Setting) (typings : Typings) (w n : World) (v : Value) (verified :
 
 module _ (l : LinkedFile) (out : Outer) (s : State) (reached : IsReached l out s) where
   abbrev p : Setting
-  p = setting l out
+  p = setting_in l out
 
   abbrev here : World
   here = world s out
@@ -101,12 +101,12 @@ module _ (l : LinkedFile) (out : Outer) (s : State) (reached : IsReached l out s
   pub scripts_few : length l.file.scripts < 2 ^ 32
   scripts_few = let count = (definitions l reached.verified.linked).script_count in omega (arith, count)
 
-  pub step_free : IsFree (step_here l out s)
+  pub step_free : IsUnstuck (step_here l out s)
   step_free = free_of p reached.typings (step_here l out s) (stays_sound p reached.typings (machine s out) reached.verified reached.typed reached.sound)
 
   -- ---- over no frame the last script is started
 
-  start_fair : s.frames.living ≡ [] → IsFairPart p here (starts p (last_script p) here)
+  start_fair : s.frames.living ≡ [] → IsFairPart p here (starts_script p (last_script p) here)
   start_fair none =
       let q : List Frame → Machine = λ fs. record { world = here; frames = fs } in
       starts_fair p reached.typings here reached.verified reached.typed (subst (λ (fs : List Frame). IsSound p reached.typings (q fs)) none reached.sound)
@@ -143,11 +143,11 @@ module _ (l : LinkedFile) (out : Outer) (s : State) (reached : IsReached l out s
     may_return (Went n (Returns v)) fair = below_takes p reached.typings here n v reached.verified reached.typed fair.0 fair.1 (newest s.frames) (under s.frames.living) newest_sound
     may_return (Stopped n why) fair = tt
 
-    pub step_is : step_here l out s ≡ stepped p (turned p s.frames ran)
+    pub step_is : step_here l out s ≡ step_of_turn p (turn_of p s.frames ran)
     step_is = ap (step_of p here) (living_is s.frames live) ∙ acted_is p here s.frames ran reached.sized live act_fair.0
 
-    pub turn_fair : IsFairTurn p (turned p s.frames ran)
+    pub turn_fair : IsFairTurn p (turn_of p s.frames ran)
     turn_fair = record {
       held = turn_held p here s.frames ran reached.sized act_fair.1 act_fair.0 (may_return ran act_fair.0);
-      free = subst (λ (r : Stepped). IsFree r) step_is step_free;
+      free = subst (λ (r : Stepped). IsUnstuck r) step_is step_free;
     }

@@ -10,7 +10,7 @@ use Rattle.abc_file_types.specs.declared.code.Handler.{Handler}
 use Rattle.abc_frames.specs.Frame.{Frame, Frames, waiting}
 use Rattle.abc_frames.specs.declared.records.Wait.TheVariants as waits
 use Rattle.abc_heap_store.specs.Heap.{Heap, cells_used}
-use Rattle.abc_heap_store.specs.Texts.{IsText, part_of, text_of}
+use Rattle.abc_heap_store.specs.Texts.{IsText, part_of_text, text_of}
 use Rattle.abc_heap_store.specs.declared.records.Limit.{Limit}
 use Rattle.abc_heap_store.specs.declared.records.Limit.TheVariants as limits
 use Rattle.abc_heap_store.specs.declared.records.What.{What}
@@ -27,16 +27,16 @@ use Rattle.abc_machine.specs.Texts.{KeepsTexts, TextsGrow}
 use Rattle.abc_meaning.proofs.Adding.{world_of}
 use Rattle.abc_meaning.specs.At.{Above, Act, Goes, Returns, Stays, Top}
 use Rattle.abc_meaning.specs.Calls.{begins_call, entered_call, enters_call, stops_call}
-use Rattle.abc_meaning.specs.Entering.{starts}
+use Rattle.abc_meaning.specs.Entering.{starts_script}
 use Rattle.abc_meaning.specs.Fair.{IsFairAs, IsFairPart}
 use Rattle.abc_meaning.specs.Logs.{world_left}
 use Rattle.abc_meaning.specs.Objects.{new_object, new_of_host, prototype_for}
 use Rattle.abc_meaning.specs.Setting.{Setting, routine_of}
 use Rattle.abc_meaning.specs.Sound.{AreTypings, IsSound, Typings}
-use Rattle.abc_meaning.specs.Step.{acted, gives_back, put_on, puts, resumed, resumes, room_for_frame, runs, settles, size_of_frame, size_of_frames, started, step_of}
-use Rattle.abc_meaning.specs.ThrowLaws.{IsVerified}
+use Rattle.abc_meaning.specs.Step.{after_act, gives_back, put_on, puts, after_resume, resumes, room_for_frame, runs, settles, size_of_frame, size_of_frames, after_start, step_of}
+use Rattle.abc_meaning.specs.ThrowLaws.{IsVerifiedSetting}
 use Rattle.abc_meaning.specs.Throwing.{End, Ends, Stepped, Stuck, catcher, caught_at, goes_on, has_stack, lands, last_script, stops, throws_made, unwinds}
-use Rattle.abc_meaning.specs.World.{Errs, Faults, Fills, Outcome, Run, Sticks, Stop, Stopped, Throws, Went, World, and_then, done, room, room_for_cells, room_for_objects, stop}
+use Rattle.abc_meaning.specs.World.{Errs, Faults, Fills, Outcome, Run, Sticks, Stop, Stopped, Throws, Went, World, and_then, pure, room, room_for_cells, room_for_objects, stop}
 use Rattle.abc_meaning_sound.proofs.Fairly.{call_fair}
 use Rattle.abc_meaning_sound.proofs.Fared.{acts_fair, starts_fair}
 use Rattle.abc_meaning_sound.proofs.Typed.{has_typings}
@@ -46,7 +46,7 @@ use Rattle.abc_run_finish.specs.Ending.{stepped_by}
 use Rattle.abc_run_finish.specs.Fairly.{FirstCanTake}
 use Rattle.abc_run_finish.specs.Steps.{EndsAs, FailsAs, GoesOnAs, IsReached, step_here}
 use Rattle.abc_run_finish.specs.declared.ended.Ended.{Ended}
-use Rattle.abc_run_state.specs.Outer.{Outer, setting, world}
+use Rattle.abc_run_state.specs.Outer.{Outer, setting_in, world}
 use Rattle.abc_run_state.specs.declared.state.State.{State}
 use Rattle.abc_verify_typing.specs.Lists.{Each}
 
@@ -75,12 +75,12 @@ front_taken n k xs ys more e within =
     let long : k ≤ length (drop n xs) = omega (arith, within, length-drop n xs) in
     ap (λ (zs : List ℕ). take k (drop n zs)) e ∙ ap (take k) (drop-append-le n xs more low) ∙ take-append-le k (drop n xs) more long
 
-part_longer : (pool : List (List ℕ)) (a b : Heap) (part : ℕ) → TextsGrow a b → length (part_of a.fixed a.made pool part) ≤ length (part_of b.fixed b.made pool part)
+part_longer : (pool : List (List ℕ)) (a b : Heap) (part : ℕ) → TextsGrow a b → length (part_of_text a.fixed a.made pool part) ≤ length (part_of_text b.fixed b.made pool part)
 part_longer pool a b zero g = omega (arith, ap length g.fixed)
 part_longer pool a b (suc zero) g = longer a.made b.made g.made.0 g.made.1
 part_longer pool a b (suc (suc i)) g = omega arith
 
-part_taken : (pool : List (List ℕ)) (a b : Heap) (part n k : ℕ) → TextsGrow a b → n + k ≤ length (part_of a.fixed a.made pool part) → take k (drop n (part_of b.fixed b.made pool part)) ≡ take k (drop n (part_of a.fixed a.made pool part))
+part_taken : (pool : List (List ℕ)) (a b : Heap) (part n k : ℕ) → TextsGrow a b → n + k ≤ length (part_of_text a.fixed a.made pool part) → take k (drop n (part_of_text b.fixed b.made pool part)) ≡ take k (drop n (part_of_text a.fixed a.made pool part))
 part_taken pool a b zero n k g within = ap (λ (xs : List ℕ). take k (drop n xs)) g.fixed
 part_taken pool a b (suc zero) n k g within = front_taken n k a.made b.made g.made.0 g.made.1 within
 part_taken pool a b (suc (suc i)) n k g within = refl
@@ -111,7 +111,7 @@ if_keeps w true m k f g = f
 if_keeps w false m k f g = g
 
 room_keeps : (w : World) (which : Limit) (used need limit : ℕ) → PartKeeps w (room which used need limit w)
-room_keeps w which used need limit = if_keeps w (nat_le (used + need) limit) (done tt) (stop (Fills which)) (record { texts = texts_self w.heap }) (record { texts = texts_self w.heap })
+room_keeps w which used need limit = if_keeps w (nat_le (used + need) limit) (pure tt) (stop (Fills which)) (record { texts = texts_self w.heap }) (record { texts = texts_self w.heap })
 
 objects_keep : (w : World) (need : ℕ) → PartKeeps w (room_for_objects need w)
 objects_keep w need = room_keeps w limits.Objects (length w.heap.objects) need w.heap.limits.objects
@@ -179,7 +179,7 @@ module _ (p : Setting) where
   settles_keep w fs (Stays f) = record { texts = texts_self w.heap }
   settles_keep w fs (Above g f) = puts_keep w g (f ∷ fs)
 
-  resumed_keeps : (u : World) (f : Frame) (fs : List Frame) (o : Outcome Top) → PartKeeps u o → StepKeeps u (resumed p f fs o)
+  resumed_keeps : (u : World) (f : Frame) (fs : List Frame) (o : Outcome Top) → PartKeeps u o → StepKeeps u (after_resume p f fs o)
   resumed_keeps u f fs (Went w top) a = step_on u w (settles p w fs top) a.texts (settles_keep w fs top)
   resumed_keeps u f fs (Stopped w why) a = step_on u w (stops p w (f ∷ fs) why) a.texts (stops_keep w (f ∷ fs) why)
 
@@ -187,7 +187,7 @@ module _ (p : Setting) where
   given_back_keeps w v [] can = record { texts = texts_self w.heap }
   given_back_keeps w v (f ∷ fs) can = resumed_keeps w f fs (resumes p (waiting waits.Not f) f.wait v w) (fair_keeps p w (resumes p (waiting waits.Not f) f.wait v w) can.fair)
 
-  started_keeps : (w : World) (o : Outcome Frame) → PartKeeps w o → StepKeeps w (started p o)
+  started_keeps : (w : World) (o : Outcome Frame) → PartKeeps w o → StepKeeps w (after_start p o)
   started_keeps w (Went n f) a = step_on w n (puts p n f []) a.texts (puts_keep n f [])
   started_keeps w (Stopped n why) a = step_on w n (stops p n [] why) a.texts (stops_keep n [] why)
 
@@ -206,8 +206,8 @@ module _ (p : Setting) where
 
   -- ---- a step
 
-  module _ (typings : Typings) (verified : IsVerified p) (typed : AreTypings p typings) where
-    acted_keeps : (w : World) (f : Frame) (fs : List Frame) (o : Outcome Act) → IsSound p typings (record { world = w; frames = f ∷ fs }) → IsFairAs p f w o → StepKeeps w (acted p f fs o)
+  module _ (typings : Typings) (verified : IsVerifiedSetting p) (typed : AreTypings p typings) where
+    acted_keeps : (w : World) (f : Frame) (fs : List Frame) (o : Outcome Act) → IsSound p typings (record { world = w; frames = f ∷ fs }) → IsFairAs p f w o → StepKeeps w (after_act p f fs o)
     acted_keeps w f fs (Went n (Goes (Stays g))) sound fair = step_on w n (settles p n fs (Stays g)) (texts_grown w.heap n.heap fair.0.grows) (settles_keep n fs (Stays g))
     acted_keeps w f fs (Went n (Goes (Above g b))) sound fair = step_on w n (settles p n fs (Above g b)) (texts_grown w.heap n.heap fair.0.grows) (settles_keep n fs (Above g b))
     acted_keeps w f fs (Went n (Returns v)) sound fair =
@@ -215,14 +215,14 @@ module _ (p : Setting) where
     acted_keeps w f fs (Stopped n why) sound fair = step_on w n (stops p n (f ∷ fs) why) (texts_grown w.heap n.heap fair.0.grows) (stops_keep n (f ∷ fs) why)
 
     step_keeps : (w : World) (fs : List Frame) → IsSound p typings (record { world = w; frames = fs }) → StepKeeps w (step_of p w fs)
-    step_keeps w [] sound = started_keeps w (starts p (last_script p) w) (fair_keeps p w (starts p (last_script p) w) (starts_fair p typings w verified typed sound))
+    step_keeps w [] sound = started_keeps w (starts_script p (last_script p) w) (fair_keeps p w (starts_script p (last_script p) w) (starts_fair p typings w verified typed sound))
     step_keeps w (f ∷ fs) sound = acted_keeps w f fs (runs p f (routine_of p f.method) w) sound (acts_fair p typings w f fs verified typed sound).0
 
 -- ---- the states of the code
 
 module _ (l : LinkedFile) (out : Outer) (s : State) (reached : IsReached l out s) where
   here_keeps : StepKeeps (world s out) (step_here l out s)
-  here_keeps = step_keeps (setting l out) reached.typings reached.verified reached.typed (world s out) s.frames.living reached.sound
+  here_keeps = step_keeps (setting_in l out) reached.typings reached.verified reached.typed (world s out) s.frames.living reached.sound
 
   left_texts : (r : Stepped) (h : Heap) → step_here l out s ≡ r → (world_left r).heap ≡ h → TextsGrow s.arena h
   left_texts r h e is = subst (TextsGrow s.arena) (ap (λ (x : Stepped). (world_left x).heap) e ∙ is) here_keeps.texts
@@ -242,9 +242,9 @@ left_by_code : (r : Result Unit Ended) (w : World) (q : Frames) → (world_left 
 left_by_code (Ok u) w q = refl
 left_by_code (Err e) w q = refl
 
-pub begun_texts : (l : LinkedFile) (out : Outer) (m : ℕ) (s new : State) (ns : List ℤ) (r : Result Unit Ended) → CanCall l out m s → Each IsNumber ns → begins_call (setting l out) (world s out) m ns ≡ stepped_by r (world new out) new.frames → TextsGrow s.arena new.arena
+pub begun_texts : (l : LinkedFile) (out : Outer) (m : ℕ) (s new : State) (ns : List ℤ) (r : Result Unit Ended) → CanCall l out m s → Each IsNumber ns → begins_call (setting_in l out) (world s out) m ns ≡ stepped_by r (world new out) new.frames → TextsGrow s.arena new.arena
 begun_texts l out m s new ns r can numbered e =
-    let p = setting l out in
+    let p = setting_in l out in
     let w = world s out in
     let t = has_typings p can.verified in
     let keeps = entered_call_keeps p m w (enters_call p m ns w) (fair_keeps p w (enters_call p m ns w) (call_fair p t.0 w m ns can.verified t.1 can.sound can.exported numbered)) in

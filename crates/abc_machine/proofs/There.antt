@@ -16,10 +16,10 @@ use Rattle.abc_objects.proofs.Started.{stored}
 use Rattle.abc_ops.proofs.Staying.{string_there}
 use Rattle.abc_machine.specs.OptionLaws.{OptionsAreThere}
 use Rattle.abc_link_names.specs.Linked.{IsLinkedFile, LinkedFile}
-use Rattle.abc_link_names.specs.Starts.{raw_of, space_value}
+use Rattle.abc_link_names.specs.Starts.{raw_of_option, space_value}
 use Rattle.abc_link_names.specs.declared.start.Raw.{Raw}
 use Rattle.abc_link_names.specs.declared.start.Raw.TheVariants as raws
-use Rattle.abc_meaning.specs.Setting.{Setting, raw_value, string_of}
+use Rattle.abc_meaning.specs.Setting.{Setting, value_of_raw, string_of}
 use Rattle.abc_file_types.specs.Classes.{sizes_of}
 use Rattle.abc_file_types.specs.Methods.{has_flag, has_value}
 use Rattle.abc_file_types.specs.declared.methods.Method.{Method}
@@ -48,7 +48,7 @@ space_there l n e = go (nat_eq n 0) refl
     go true q = tt
     go false q = (positive n q, leb-true n _ e)
 
-raw_there : (l : LinkedFile) → IsLinkedFile l → (kind : ValueKind) (n : ℕ) → has_value (sizes_of l.file) n kind ≡ true → RawThere l (raw_of l.file kind n)
+raw_there : (l : LinkedFile) → IsLinkedFile l → (kind : ValueKind) (n : ℕ) → has_value (sizes_of l.file) n kind ≡ true → RawThere l (raw_of_option l.file kind n)
 raw_there l k kinds.Undefined n e = tt
 raw_there l k kinds.Utf8 n e = tt
 raw_there l k kinds.Int n e = int_there l.file (stored l.file k.fits) n
@@ -65,7 +65,7 @@ raw_there l k kinds.Protected n e = space_there l n e
 raw_there l k kinds.Explicit n e = space_there l n e
 raw_there l k kinds.StaticProtected n e = space_there l n e
 
-value_there : (p : Setting) (h : Heap) (r : Raw) (v : Value) → RawThere p.linked r → raw_value p r ≡ Some v → Exists p.linked h v
+value_there : (p : Setting) (h : Heap) (r : Raw) (v : Value) → RawThere p.linked r → value_of_raw p r ≡ Some v → Exists p.linked h v
 value_there p h raws.Undefined v t e = let same : values.Undefined ≡ v = cc in subst (Exists p.linked h) same tt
 value_there p h raws.Null v t e = let same : values.Null ≡ v = cc in subst (Exists p.linked h) same tt
 value_there p h (raws.Int z) v t e = let same : values.Num z ≡ v = cc in subst (Exists p.linked h) same t
@@ -97,6 +97,6 @@ there l linked n m e =
           let fit = (option_fits (sizes_of l.file) o).0 (fits_at l m k o fits.4 at) in
           record {
             low = (number_fits o.value).0 fit.0;
-            there = λ formulas h v s is. value_there (record { linked = l; formulas = formulas }) h (raw_of l.file o.kind o.value) v (raw_there l linked o.kind o.value fit.1) is;
+            there = λ formulas h v s is. value_there (record { linked = l; formulas = formulas }) h (raw_of_option l.file o.kind o.value) v (raw_there l linked o.kind o.value fit.1) is;
           };
     }

@@ -1,13 +1,13 @@
 -- A run is a call whose value is not told.
 use Rattle.std.proofs.Common.{◌≡◌, ◌≢◌, ℕ, zero, suc, List, refl, sym, ap, subst}
 use Rattle.std.specs.declared.option.Option.{Option}
-use Rattle.abc_meaning.specs.Calls.{EndsAs, Gives, Replied, replies_for, returned, then_replies}
+use Rattle.abc_meaning.specs.Calls.{EndsAs, Gives, Replied, replies_for, value_at_end, then_replies}
 use Rattle.abc_meaning.specs.Calls as calls
 use Rattle.abc_heap_values.specs.declared.values.Value.{Value}
 use Rattle.abc_machine.specs.Ended.{HasRun, IsEndOf, RunsAs, ended}
 use Rattle.abc_machine.specs.Ended as runs
 use Rattle.abc_machine.specs.Replied.{HasReplied, IsReplyOf, RepliesAs, failed, replied}
-use Rattle.abc_machine.specs.Runs.{Leaves}
+use Rattle.abc_machine.specs.Runs.{LeavesWorld}
 use Rattle.abc_machine.specs.Spent.{end_for}
 use Rattle.abc_machine.specs.declared.ends.End.TheVariants as ends
 use Rattle.abc_machine.specs.declared.replies.Reply.{Reply}
@@ -38,7 +38,7 @@ then_same v (Ends w Stuck) go call h = refl
 
 pub runs_are : (p : Setting) (fuel : ℕ) (q : Machine) → runs_for p fuel q ≡ ended_of (replies_for p fuel q)
 runs_are p zero q = refl
-runs_are p (suc fuel) q = then_same (returned p q.world q.frames) (step p q) (runs_for p fuel) (replies_for p fuel) (λ n. runs_are p fuel n)
+runs_are p (suc fuel) q = then_same (value_at_end p q.world q.frames) (step p q) (runs_for p fuel) (replies_for p fuel) (λ n. runs_are p fuel n)
 
 pub end_is : (r : calls.Reply) (reply : Reply) → IsReplyOf r reply → IsEndOf (end_of r) (end_for reply)
 end_is r (replies.Value v) is = ap end_of is.gives
@@ -55,8 +55,8 @@ ends_as r x z reply (failed q front) = runs.failed q.world.wrote (end_of q.reply
 pub run_replied : (p : Setting) (fuel : ℕ) (q : Machine) (x z : Option (List ℕ)) (reply : Reply) → RepliesAs (replies_for p fuel q) x z reply → RunsAs (ran (runs_for p fuel q)) x z (end_for reply)
 run_replied p fuel q x z reply r = subst (λ (e : Ended). RunsAs (ran e) x z (end_for reply)) (sym (runs_are p fuel q)) (ends_as (replies_for p fuel q) x z reply r)
 
-pub run_leaves : (p : Setting) (fuel : ℕ) (q : Machine) (reply : Reply) (s : State) → (reply ≢ replies.WriteFault → Leaves p (replies_for p fuel q).world s) → end_for reply ≢ ends.WriteFault → Leaves p (runs_for p fuel q).world s
-run_leaves p fuel q reply s leaves f = subst (λ (w : World). Leaves p w s) (sym (ap (λ (e : Ended). e.world) (runs_are p fuel q))) (leaves (λ e. f (ap end_for e)))
+pub run_leaves : (p : Setting) (fuel : ℕ) (q : Machine) (reply : Reply) (s : State) → (reply ≢ replies.WriteFault → LeavesWorld p (replies_for p fuel q).world s) → end_for reply ≢ ends.WriteFault → LeavesWorld p (runs_for p fuel q).world s
+run_leaves p fuel q reply s leaves f = subst (λ (w : World). LeavesWorld p w s) (sym (ap (λ (e : Ended). e.world) (runs_are p fuel q))) (leaves (λ e. f (ap end_for e)))
 
 pub failed_back : (reply : Reply) → end_for reply ≡ ends.WriteFault → reply ≡ replies.WriteFault
 failed_back (replies.Value v) e = absurd cc

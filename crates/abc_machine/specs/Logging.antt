@@ -8,11 +8,11 @@ use Rattle.abc_base.specs.declared.source.Failed.{Failed}
 use Rattle.abc_run_finish.specs.Steps.{StepsIn, left_here, machine, step_here}
 use Rattle.abc_run_finish.specs.declared.halts.Halt.{Halt}
 use Rattle.abc_run_finish.specs.declared.halts.Halt.TheVariants as halts
-use Rattle.abc_meaning.specs.Logs.{lines_of, world_left, wrote_since}
+use Rattle.abc_meaning.specs.Logs.{lines_of_step, world_left, wrote_since}
 use Rattle.abc_log.specs.Lines.{out_line, start_line, step_line}
 use Rattle.abc_meaning.specs.Throwing.{Stepped}
 use Rattle.abc_link_names.specs.Linked.{LinkedFile}
-use Rattle.abc_run_state.specs.Outer.{Outer, setting, world}
+use Rattle.abc_run_state.specs.Outer.{Outer, setting_in, world}
 use Rattle.abc_run_state.specs.declared.state.Left.{Left}
 use Rattle.abc_run_state.specs.declared.state.State.{State}
 use Rattle.abc_run_state.specs.declared.state.Stop.{Stop}
@@ -32,7 +32,7 @@ LogsLeft l out old left done new before now = LogsIn (left_here l out old left) 
 
 -- the step of a state, with its lines
 abbrev pub lines_here : LinkedFile → Outer → State → List ℕ
-lines_here l out s = lines_of (setting l out) (machine s out) (step_here l out s)
+lines_here l out s = lines_of_step (setting_in l out) (machine s out) (step_here l out s)
 
 -- the step of a state is done, and its lines are written to the log, or a front of them where the log failed
 abbrev pub LogsAs : LinkedFile → Outer → (old : State) → Result Unit Halt → (new : State) → (before now : Option (List ℕ)) → Type 0

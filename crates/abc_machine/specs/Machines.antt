@@ -12,7 +12,7 @@ use Rattle.abc_objects.specs.Opening.{formula_names}
 use Rattle.abc_run_finish.specs.Begun.{IsBegun}
 use Rattle.abc_meaning.specs.Openings.{setting}
 use Rattle.abc_link_names.specs.Linked.{LinkedFile}
-use Rattle.abc_run_calls.specs.Arguments.{IsKnown}
+use Rattle.abc_run_calls.specs.Arguments.{HasArgumentRoom}
 use Rattle.abc_meaning.specs.World.{World}
 use Rattle.abc_run_state.specs.declared.state.State.{State}
 
@@ -29,7 +29,7 @@ pub record Opened : Type 0 where
   pub steps : ℕ
 
 -- what a machine begins with: the state of its run, and that no script is started
-pub record IsFirst (l : LinkedFile) (formulas : List Formula) (limits : Limits) (s : State) (seen : List Bool) : Type 0 where
+pub record IsFirstState (l : LinkedFile) (formulas : List Formula) (limits : Limits) (s : State) (seen : List Bool) : Type 0 where
   pub begun : IsBegun (setting l formulas) limits s
   pub none : seen ≡ replicate (length l.file.scripts) false
 
@@ -43,13 +43,13 @@ abbrev pub world_run : Opened → List Formula → (fuel : ℕ) → World
 world_run m formulas fuel = (runs_for (setting m.linked formulas) fuel (first_state (setting m.linked formulas) m.limits)).world
 
 -- its run was done, and no call failed to write
-pub record IsReady (m : Opened) : Type 0 where
+pub record IsReadyToCall (m : Opened) : Type 0 where
   pub done : m.ended ≡ Some Done
   pub still : m.closed ≡ false
 
 -- before its run, a machine is in the first state of the meaning, with any formulas of these names
-abbrev pub CanBegin : LinkedFile → State → Type 0
-CanBegin l s = (formulas : List Formula) → formula_names formulas ≡ s.arena.formulas → IsBegun (setting l formulas) s.arena.limits s
+abbrev pub CanBeginRun : LinkedFile → State → Type 0
+CanBeginRun l s = (formulas : List Formula) → formula_names formulas ≡ s.arena.formulas → IsBegun (setting l formulas) s.arena.limits s
 
 abbrev pub kept_world : State → World
 kept_world s = record { heap = s.arena; started = s.started; wrote = [] }
@@ -59,10 +59,10 @@ pub record CanGoOn (l : LinkedFile) (s : State) : Type 0 where
   pub sound : (formulas : List Formula) → formula_names formulas ≡ s.arena.formulas → WorldSound (setting l formulas) (kept_world s)
   pub sized : (formulas : List Formula) → IsSized (setting l formulas) s.arena.limits s.frames
   pub none : s.frames.living ≡ []
-  pub known : IsKnown l s.given.limit
+  pub known : HasArgumentRoom l s.given.limit
 
 -- what a machine keeps, by how its run ended and whether it is closed; before its run it has seen of the scripts which are started
-pub record Keeps (l : LinkedFile) (s : State) (seen : List Bool) (ended : Option End) (closed : Bool) : Type 0 where
-  pub begins : ended ≡ None → CanBegin l s × (s.arena.limits.cells < 2 ^ 32)
+pub record MachineKeeps (l : LinkedFile) (s : State) (seen : List Bool) (ended : Option End) (closed : Bool) : Type 0 where
+  pub begins : ended ≡ None → CanBeginRun l s × (s.arena.limits.cells < 2 ^ 32)
   pub noted : ended ≡ None → seen ≡ s.started
   pub goes_on : ended ≡ Some Done → closed ≡ false → CanGoOn l s

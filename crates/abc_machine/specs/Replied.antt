@@ -25,14 +25,14 @@ plain_value (values.Space n) = plains.Other
 plain_value (values.Obj o) = plains.Other
 
 -- a call gives a value, which is told so
-pub record Tells (r : meant.Reply) (v : PlainValue) : Type 0 where
+pub record TellsValue (r : meant.Reply) (v : PlainValue) : Type 0 where
   pub value : Value
   pub gives : r ≡ meant.Gives value
   pub told : plain_value value ≡ v
 
 -- the code answers this reply of the meaning
 abbrev pub IsReplyOf : meant.Reply → Reply → Type 0
-IsReplyOf r (replies.Value v) = Tells r v
+IsReplyOf r (replies.Value v) = TellsValue r v
 IsReplyOf r (replies.Uncaught thrown) = r ≡ meant.EndsAs (ends.Uncaught thrown)
 IsReplyOf r (replies.Profile method index fault) = r ≡ meant.EndsAs (ends.Profile method index fault)
 IsReplyOf r replies.FuelSpent = r ≡ meant.EndsAs ends.FuelSpent

@@ -3,7 +3,7 @@ use Rattle.std.specs.Prelude.{◌≡◌, ℕ, suc, List, Ok, Err}
 use Rattle.std.specs.declared.option.Option.{Option}
 use Rattle.std.specs.declared.result.Result.{Result}
 use Rattle.abc_meaning.specs.Calls as calls
-use Rattle.abc_meaning.specs.Calls.{returned}
+use Rattle.abc_meaning.specs.Calls.{value_at_end}
 use Rattle.abc_heap_values.specs.declared.values.Value.{Value}
 use Rattle.abc_run_finish.specs.Ending.{IsSized}
 use Rattle.abc_run_finish.specs.declared.ended.Ended.TheVariants as ended
@@ -15,7 +15,7 @@ use Rattle.abc_machine.specs.declared.replies.Reply.TheVariants as replies
 use Rattle.abc_meaning.specs.Throwing as meant
 use Rattle.abc_run_finish.specs.Outward.{adding}
 use Rattle.abc_link_names.specs.Linked.{LinkedFile}
-use Rattle.abc_run_state.specs.Outer.{Outer, setting, world}
+use Rattle.abc_run_state.specs.Outer.{Outer, setting_in, world}
 use Rattle.abc_run_state.specs.declared.state.State.{State}
 use Rattle.abc_run_finish.specs.Steps.{EndsAs, FailsAs, GoesOnAs, IsReached}
 use Rattle.abc_run_finish.specs.declared.halts.Halt.{Halt}
@@ -55,9 +55,9 @@ reply_by v meant.Stuck = calls.EndsAs meant.Stuck
 -- a step ended as the code says, in the state that it leaves
 pub record EndsWith (l : LinkedFile) (out : Outer) (old new : State) (reply : Reply) (before now : Option (List ℕ)) : Type 0 where
   pub end : meant.End
-  pub is : IsReplyOf (reply_by (returned (setting l out) (world old out) old.frames.living) end) reply
+  pub is : IsReplyOf (reply_by (value_at_end (setting_in l out) (world old out) old.frames.living) end) reply
   pub ends : EndsAs l out old new end before now
-  pub sized : IsSized (setting l out) new.arena.limits new.frames
+  pub sized : IsSized (setting_in l out) new.arena.limits new.frames
 
 -- a step went on, to a state that a run reaches
 pub record GoesTo (l : LinkedFile) (out : Outer) (old new : State) (before now : Option (List ℕ)) : Type 0 where
@@ -65,13 +65,13 @@ pub record GoesTo (l : LinkedFile) (out : Outer) (old new : State) (before now :
   pub reached : IsReached l (adding goes.bytes out) new
 
 -- no step was taken
-pub record Rests (old new : State) (before now : Option (List ℕ)) : Type 0 where
+pub record SpendsNothing (old new : State) (before now : Option (List ℕ)) : Type 0 where
   pub state : new ≡ old
   pub sink : now ≡ before
 
 abbrev pub SpendsAs : LinkedFile → Outer → (old : State) → (fuel : ℕ) → Result Unit Reply → (new : State) → (left : ℕ) → (before now : Option (List ℕ)) → Type 0
 SpendsAs l out old fuel (Ok u) new left before now = (fuel ≡ suc left) × GoesTo l out old new before now
-SpendsAs l out old fuel (Err replies.FuelSpent) new left before now = (fuel ≡ 0) × Rests old new before now
+SpendsAs l out old fuel (Err replies.FuelSpent) new left before now = (fuel ≡ 0) × SpendsNothing old new before now
 SpendsAs l out old fuel (Err replies.WriteFault) new left before now = (fuel ≡ suc left) × FailsAs l out old new before now
 SpendsAs l out old fuel (Err (replies.Value v)) new left before now = (fuel ≡ suc left) × EndsWith l out old new (replies.Value v) before now
 SpendsAs l out old fuel (Err (replies.Uncaught thrown)) new left before now = (fuel ≡ suc left) × EndsWith l out old new (replies.Uncaught thrown) before now

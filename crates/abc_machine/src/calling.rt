@@ -1,11 +1,11 @@
 ghost use Rattle.std.specs.Prelude.{◌≡◌, ◌≢◌, List, []};
-ghost use Rattle.abc_base.specs.Hosts.{arguments};
+ghost use Rattle.abc_base.specs.Hosts.{plain_arguments};
 ghost use Rattle.abc_base.specs.declared.formula.Formula.{Formula};
 ghost use Rattle.abc_meaning.specs.Calls.{call_meaning};
 ghost use Rattle.abc_machine.specs.Calling.{CanCall};
 ghost use Rattle.abc_machine.specs.Machines.{kept_world};
 ghost use Rattle.abc_machine.specs.Replied.{HasReplied, RepliesAs, is_write_fault as is_fault};
-ghost use Rattle.abc_machine.specs.Runs.{Leaves};
+ghost use Rattle.abc_machine.specs.Runs.{LeavesWorld};
 ghost use Rattle.abc_machine.specs.Texts.{TextsGrow};
 ghost use Rattle.abc_machine.specs.declared.replies.Reply.TheVariants.{WriteFault};
 ghost use Rattle.abc_meaning.specs.Openings.{setting};
@@ -45,9 +45,13 @@ pub(crate) fn call_for<K: Sink, H: Host>(
     ghost formulas: { List Formula }
     requires can { CanCall linked.now (record { formulas = formulas; wrote = [] }) method s.old }
     requires host { formulas ≡ H.formulas host.now }
-    ensures replies { RepliesAs (call_meaning (setting linked.now formulas) fuel (kept_world s.old) method (arguments args.now)) (K.written sink.old) (K.written sink.new) result }
+    ensures replies { RepliesAs
+        (call_meaning (setting linked.now formulas) fuel (kept_world s.old) method (plain_arguments args.now))
+        (K.written sink.old) (K.written sink.new) result }
     ensures cause { HasReplied (K.faults sink.old) (K.faults sink.new) result }
-    ensures leaves { result ≢ WriteFault → Leaves (setting linked.now formulas) (call_meaning (setting linked.now formulas) fuel (kept_world s.old) method (arguments args.now)).world s.new }
+    ensures leaves { result ≢ WriteFault
+        → LeavesWorld (setting linked.now formulas) (call_meaning (setting linked.now formulas) fuel
+        (kept_world s.old) method (plain_arguments args.now)).world s.new }
     ensures limit { s.new.given.limit ≡ s.old.given.limit }
     ensures texts { TextsGrow s.old.arena s.new.arena }
 {

@@ -29,7 +29,8 @@ pub fn thrown_name<'a>(abc: &'a Abc, thrown: &'a Thrown) -> &'a [u8]
 /// Writes the line of what nothing caught. After `Failed` the front of that was written, and it comes only where the count of faults
 /// rose or stood at its last value.
 pub fn write_uncaught<K: Sink>(linked: &Linked, log: &mut K, thrown: &Thrown) -> Result<(), Failed>
-    ensures bytes { WritesAll (K.written log.old) (K.written log.new) result (end_line linked.now.file (Uncaught thrown.now)) }
+    ensures bytes { WritesAll (K.written log.old) (K.written log.new) result
+        (end_line linked.now.file (Uncaught thrown.now)) }
     ensures cause { HasCause (K.faults log.old) (K.faults log.new) result }
 {
     write_uncaught_end(log, thrown_name(linked.abc(), thrown))

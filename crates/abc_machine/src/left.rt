@@ -1,13 +1,13 @@
 ghost use Rattle.std.specs.Prelude.{◌≡◌, ◌<◌, Err, Ok, length};
 ghost use Rattle.abc_run_calls.specs.Calls.{CanFinish};
 ghost use Rattle.abc_heap_values.specs.declared.values.Value.{Value};
-ghost use Rattle.abc_run_calls.specs.Arguments.{IsKnown};
+ghost use Rattle.abc_run_calls.specs.Arguments.{HasArgumentRoom};
 ghost use Rattle.abc_run_finish.specs.Steps.{LeavesStep};
 ghost use Rattle.abc_run_finish.specs.Fairly.{IsFairTurn};
 ghost use Rattle.abc_run_finish.specs.declared.halts.Halt.TheVariants.{Returns};
 ghost use Rattle.abc_machine.specs.Logging.{LogsLeft, if_written as answer_if_written};
-ghost use Rattle.abc_run_state.specs.Outer.{Outer, setting, world};
-ghost use Rattle.abc_run_state.specs.Turns.{answered};
+ghost use Rattle.abc_run_state.specs.Outer.{Outer, setting_in, world};
+ghost use Rattle.abc_run_state.specs.Turns.{turn_of_answer};
 
 use abc_base::{Failed, Host, Sink};
 use abc_link::Linked;
@@ -34,14 +34,17 @@ fn finish_lent<'a, K: Sink, H: Host>(
     left: Result<Left, Stop>,
 ) -> (&'a mut K, Result<(), Halt>)
     ghost out: { Outer }
-    requires known { IsKnown linked.now s.old.given.limit }
+    requires known { HasArgumentRoom linked.now s.old.given.limit }
     requires scripts { 0 < length linked.now.file.scripts }
     requires host { out.formulas ≡ H.formulas host.now }
     requires left { CanFinish linked.now left s.old }
-    requires fair { IsFairTurn (setting linked.now out) (answered (setting linked.now out) left (world s.old out) s.old.frames) }
-    ensures logs { LogsLeft linked.now out s.old left result.1 s.new (K.written log.old) (K.written result.0.now) }
+    requires fair { IsFairTurn (setting_in linked.now out)
+        (turn_of_answer (setting_in linked.now out) left (world s.old out) s.old.frames) }
+    ensures logs { LogsLeft linked.now out s.old left result.1 s.new (K.written log.old)
+        (K.written result.0.now) }
     ensures value { (v : Value) → result.1 ≡ Err (Returns v) → left ≡ Ok (Left.Returns v) }
-    ensures leaves { LeavesStep (setting linked.now out) result.1 s.old s.new (K.faults log.old) (K.faults result.0.now) }
+    ensures leaves { LeavesStep (setting_in linked.now out) result.1 s.old s.new (K.faults log.old)
+        (K.faults result.0.now) }
     ensures same { result.0.ghost_name ≡ log.entry.ghost_name }
 {
     let mut line = OutLine::new(log);
@@ -60,14 +63,16 @@ pub(crate) fn finish_logged<K: Sink, H: Host>(
     left: Result<Left, Stop>,
 ) -> Result<(), Halt>
     ghost out: { Outer }
-    requires known { IsKnown linked.now s.old.given.limit }
+    requires known { HasArgumentRoom linked.now s.old.given.limit }
     requires scripts { 0 < length linked.now.file.scripts }
     requires host { out.formulas ≡ H.formulas host.now }
     requires left { CanFinish linked.now left s.old }
-    requires fair { IsFairTurn (setting linked.now out) (answered (setting linked.now out) left (world s.old out) s.old.frames) }
+    requires fair { IsFairTurn (setting_in linked.now out)
+        (turn_of_answer (setting_in linked.now out) left (world s.old out) s.old.frames) }
     ensures logs { LogsLeft linked.now out s.old left result s.new (K.written log.old) (K.written log.new) }
     ensures value { (v : Value) → result ≡ Err (Returns v) → left ≡ Ok (Left.Returns v) }
-    ensures leaves { LeavesStep (setting linked.now out) result s.old s.new (K.faults log.old) (K.faults log.new) }
+    ensures leaves { LeavesStep (setting_in linked.now out) result s.old s.new (K.faults log.old)
+        (K.faults log.new) }
 {
     let lent = finish_lent(linked, s, log, host, left);
     lent.1

@@ -8,7 +8,7 @@ ghost use Rattle.abc_meaning.specs.Logs.{logs_for, steps_for};
 ghost use Rattle.abc_machine.specs.Ended.{HasRun, IsEndOf};
 ghost use Rattle.abc_machine.specs.Logged.{HasAllBut, LogsRun, lines_for};
 ghost use Rattle.abc_machine.specs.Replied.{HasReplied, IsReplyOf};
-ghost use Rattle.abc_machine.specs.Runs.{Begun, IsAt, Leaves};
+ghost use Rattle.abc_machine.specs.Runs.{Begun, IsRunAt, LeavesWorld};
 ghost use Rattle.abc_machine.specs.Spent.{SpendsAs};
 ghost use Rattle.abc_machine.specs.declared.ends.End.TheVariants.{WriteFault as FailedRun};
 ghost use Rattle.abc_machine.specs.declared.replies.Reply.TheVariants.{WriteFault};
@@ -41,9 +41,12 @@ fn spend_logged<K: Sink, H: Host>(
     requires reached { IsReached linked.now out s.old }
     requires host { out.formulas ≡ H.formulas host.now }
     requires seen { seen.old ≡ s.old.started }
-    ensures spends { result ≢ Err WriteFault → SpendsAs linked.now out s.old fuel.old result s.new fuel.new None None }
-    ensures whole { result ≢ Err WriteFault → IsSome (K.written log.old) → K.written log.new ≡ append_known (K.written log.old) (lines_for linked.now out s.old fuel.old) }
-    ensures front { result ≡ Err WriteFault → IsSome (K.written log.old) → GrowsByFront (K.written log.old) (K.written log.new) (lines_for linked.now out s.old fuel.old) }
+    ensures spends { result ≢ Err WriteFault
+        → SpendsAs linked.now out s.old fuel.old result s.new fuel.new None None }
+    ensures whole { result ≢ Err WriteFault → IsSome (K.written log.old)
+        → K.written log.new ≡ append_known (K.written log.old) (lines_for linked.now out s.old fuel.old) }
+    ensures front { result ≡ Err WriteFault → IsSome (K.written log.old)
+        → GrowsByFront (K.written log.old) (K.written log.new) (lines_for linked.now out s.old fuel.old) }
     ensures seen { result ≢ Err WriteFault → seen.new ≡ s.new.started }
     ensures later { K.faults log.old ≤ K.faults log.new }
     ensures cause { result ≡ Err WriteFault → Rose (K.faults log.old) (K.faults log.new) }
@@ -70,16 +73,26 @@ fn log_steps<K: Sink, H: Host>(
     host: &H,
 ) -> Reply
     ghost begun: { Begun }
-    requires at { IsAt linked.now begun fuel.old s.old None None }
+    requires at { IsRunAt linked.now begun fuel.old s.old None None }
     requires host { begun.formulas ≡ H.formulas host.now }
     requires whole { begun.fuel ≡ fuel.old }
     requires seen { seen.old ≡ s.old.started }
-    ensures reply { result ≢ WriteFault → IsReplyOf (replies_for (setting linked.now begun.formulas) fuel.old begun.first).reply result }
-    ensures whole { result ≢ WriteFault → HasAllBut (end_line linked.now.file (runs_for (setting linked.now begun.formulas) fuel.old begun.first).end) (logs_for (setting linked.now begun.formulas) fuel.old begun.first) (K.written log.old) (K.written log.new) }
-    ensures front { result ≡ WriteFault → IsSome (K.written log.old) → GrowsByFront (K.written log.old) (K.written log.new) (logs_for (setting linked.now begun.formulas) fuel.old begun.first) }
+    ensures reply { result ≢ WriteFault
+        → IsReplyOf (replies_for (setting linked.now begun.formulas) fuel.old begun.first).reply result }
+    ensures whole { result ≢ WriteFault
+        → HasAllBut
+        (end_line linked.now.file (runs_for (setting linked.now begun.formulas) fuel.old begun.first).end)
+        (logs_for (setting linked.now begun.formulas) fuel.old begun.first) (K.written log.old)
+        (K.written log.new) }
+    ensures front { result ≡ WriteFault → IsSome (K.written log.old)
+        → GrowsByFront (K.written log.old) (K.written log.new)
+        (logs_for (setting linked.now begun.formulas) fuel.old begun.first) }
     ensures cause { HasReplied (K.faults log.old) (K.faults log.new) result }
-    ensures leaves { result ≢ WriteFault → Leaves (setting linked.now begun.formulas) (replies_for (setting linked.now begun.formulas) fuel.old begun.first).world s.new }
-    ensures steps { result ≢ WriteFault → steps_for (setting linked.now begun.formulas) fuel.old begun.first + fuel.new ≡ fuel.old }
+    ensures leaves { result ≢ WriteFault
+        → LeavesWorld (setting linked.now begun.formulas)
+        (replies_for (setting linked.now begun.formulas) fuel.old begun.first).world s.new }
+    ensures steps { result ≢ WriteFault
+        → steps_for (setting linked.now begun.formulas) fuel.old begun.first + fuel.new ≡ fuel.old }
     ensures few { fuel.new ≤ fuel.old }
     ensures limit { s.new.given.limit ≡ s.old.given.limit }
 {
@@ -92,7 +105,8 @@ fn log_steps<K: Sink, H: Host>(
 
 /// Writes the line of how a run ends. Where writing failed there is none.
 fn write_end<K: Sink>(linked: &Linked, log: &mut K, end: &End) -> Result<(), Failed>
-    ensures bytes { (e : Ending) → IsEndOf e end.now → WritesAll (K.written log.old) (K.written log.new) result (end_line linked.now.file e) }
+    ensures bytes { (e : Ending) → IsEndOf e end.now
+        → WritesAll (K.written log.old) (K.written log.new) result (end_line linked.now.file e) }
     ensures none { end.now ≡ FailedRun → (result ≡ Ok tt) × (log.new ≡ log.old) }
     ensures cause { HasCause (K.faults log.old) (K.faults log.new) result }
 {
@@ -116,14 +130,19 @@ pub(crate) fn log_for<K: Sink, H: Host>(
     host: &H,
 ) -> End
     ghost begun: { Begun }
-    requires at { IsAt linked.now begun fuel.old s.old None None }
+    requires at { IsRunAt linked.now begun fuel.old s.old None None }
     requires host { begun.formulas ≡ H.formulas host.now }
     requires whole { begun.fuel ≡ fuel.old }
     requires seen { seen.old ≡ s.old.started }
-    ensures logs { LogsRun (logs_for (setting linked.now begun.formulas) fuel.old begun.first) (ran (runs_for (setting linked.now begun.formulas) fuel.old begun.first)) (K.written log.old) (K.written log.new) result }
+    ensures logs { LogsRun (logs_for (setting linked.now begun.formulas) fuel.old begun.first)
+        (ran (runs_for (setting linked.now begun.formulas) fuel.old begun.first)) (K.written log.old)
+        (K.written log.new) result }
     ensures cause { HasRun (K.faults log.old) (K.faults log.new) result }
-    ensures leaves { result ≢ FailedRun → Leaves (setting linked.now begun.formulas) (runs_for (setting linked.now begun.formulas) fuel.old begun.first).world s.new }
-    ensures steps { result ≢ FailedRun → steps_for (setting linked.now begun.formulas) fuel.old begun.first + fuel.new ≡ fuel.old }
+    ensures leaves { result ≢ FailedRun
+        → LeavesWorld (setting linked.now begun.formulas)
+        (runs_for (setting linked.now begun.formulas) fuel.old begun.first).world s.new }
+    ensures steps { result ≢ FailedRun
+        → steps_for (setting linked.now begun.formulas) fuel.old begun.first + fuel.new ≡ fuel.old }
     ensures few { fuel.new ≤ fuel.old }
     ensures limit { s.new.given.limit ≡ s.old.given.limit }
 {

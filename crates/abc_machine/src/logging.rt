@@ -1,13 +1,13 @@
 ghost use Rattle.std.specs.Prelude.{◌≡◌, ◌≢◌, ◌<◌, ◌-◌, ◌^◌, [], Err, length};
 ghost use Rattle.abc_base.specs.Faults.{HasCause};
 ghost use Rattle.abc_base.specs.Sinks.{WritesAll};
-ghost use Rattle.abc_meaning.specs.Calls.{returned};
+ghost use Rattle.abc_meaning.specs.Calls.{value_at_end};
 ghost use Rattle.abc_heap_values.specs.declared.values.Value.{Value};
 ghost use Rattle.abc_run_finish.specs.Steps.{IsReached, LeavesStep};
 ghost use Rattle.abc_run_finish.specs.declared.halts.Halt.TheVariants.{Fails, Returns};
 ghost use Rattle.abc_machine.specs.Logging.{LogsAs, line_at};
 ghost use Rattle.abc_meaning.specs.Throwing.{last_script};
-ghost use Rattle.abc_run_state.specs.Outer.{Outer, setting, world};
+ghost use Rattle.abc_run_state.specs.Outer.{Outer, setting_in, world};
 
 use crate::left::{finish_logged, if_written};
 use abc_base::{Failed, Host, Sink};
@@ -37,7 +37,7 @@ fn write_line<K: Sink>(
 fn last_number(linked: &Linked) -> u32
     requires scripts { 0 < length linked.now.file.scripts }
     requires few { length linked.now.file.scripts < 2 ^ 32 }
-    ensures { (out : Outer) → result ≡ last_script (setting linked.now out) }
+    ensures { (out : Outer) → result ≡ last_script (setting_in linked.now out) }
 {
     let scripts = linked.abc().scripts.len();
     scripts as u32 - 1
@@ -57,7 +57,8 @@ fn start_logged<K: Sink>(
     ensures logs { LogsAs linked.now out s.old result s.new (K.written log.old) (K.written log.new) }
     ensures none { (v : Value) → result ≢ Err (Returns v) }
     ensures seen { result ≢ Err Fails → seen.new ≡ s.new.started }
-    ensures leaves { LeavesStep (setting linked.now out) result s.old s.new (K.faults log.old) (K.faults log.new) }
+    ensures leaves { LeavesStep (setting_in linked.now out) result s.old s.new (K.faults log.old)
+        (K.faults log.new) }
 {
     let done = start_last(linked, s);
     let _script = seen.note(&s.started);
@@ -79,9 +80,11 @@ fn run_logged<K: Sink, H: Host>(
     requires host { out.formulas ≡ H.formulas host.now }
     requires seen { seen.old ≡ s.old.started }
     ensures logs { LogsAs linked.now out s.old result s.new (K.written log.old) (K.written log.new) }
-    ensures value { (v : Value) → result ≡ Err (Returns v) → returned (setting linked.now out) (world s.old out) s.old.frames.living ≡ v }
+    ensures value { (v : Value) → result ≡ Err (Returns v)
+        → value_at_end (setting_in linked.now out) (world s.old out) s.old.frames.living ≡ v }
     ensures seen { result ≢ Err Fails → seen.new ≡ s.new.started }
-    ensures leaves { LeavesStep (setting linked.now out) result s.old s.new (K.faults log.old) (K.faults log.new) }
+    ensures leaves { LeavesStep (setting_in linked.now out) result s.old s.new (K.faults log.old)
+        (K.faults log.new) }
 {
     let method = s.frames.method();
     let place = s.frames.place();
@@ -110,9 +113,11 @@ pub fn step_logged<K: Sink, H: Host>(
     requires host { out.formulas ≡ H.formulas host.now }
     requires seen { seen.old ≡ s.old.started }
     ensures logs { LogsAs linked.now out s.old result s.new (K.written log.old) (K.written log.new) }
-    ensures value { (v : Value) → result ≡ Err (Returns v) → returned (setting linked.now out) (world s.old out) s.old.frames.living ≡ v }
+    ensures value { (v : Value) → result ≡ Err (Returns v)
+        → value_at_end (setting_in linked.now out) (world s.old out) s.old.frames.living ≡ v }
     ensures seen { result ≢ Err Fails → seen.new ≡ s.new.started }
-    ensures leaves { LeavesStep (setting linked.now out) result s.old s.new (K.faults log.old) (K.faults log.new) }
+    ensures leaves { LeavesStep (setting_in linked.now out) result s.old s.new (K.faults log.old)
+        (K.faults log.new) }
 {
     if s.frames.depth() == 0 {
         return start_logged(linked, s, seen, log);

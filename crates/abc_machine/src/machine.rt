@@ -2,15 +2,15 @@ ghost use Rattle.std.specs.Prelude.{◌≡◌, None, MatchResult};
 ghost use Rattle.abc_meaning.specs.Exports.{IsScriptMethod};
 ghost use Rattle.abc_heap_values.specs.declared.values.Span.{Span};
 ghost use Rattle.abc_machine.specs.Ended.{HasRun, RunsAs};
-ghost use Rattle.abc_machine.specs.Invoked.{Answers, call_of};
+ghost use Rattle.abc_machine.specs.Invoked.{AnswersCall, call_of};
 ghost use Rattle.abc_machine.specs.Logged.{LogsRun};
-ghost use Rattle.abc_machine.specs.Machines.{IsFirst, IsOpened, IsReady};
+ghost use Rattle.abc_machine.specs.Machines.{IsFirstState, IsOpened, IsReadyToCall};
 ghost use Rattle.abc_machine.specs.OneRun.{AnswersAgain, HasEnded, LeavesRun, log_of, meaning_of};
 ghost use Rattle.abc_machine.specs.Replied.{HasReplied};
 ghost use Rattle.abc_machine.specs.Texts.{CanTell, KeepsTexts, told_text};
 ghost use Rattle.abc_machine.specs.declared.replies.PlainValue.TheVariants.{Text};
 ghost use Rattle.abc_objects.specs.Opening.{formula_names};
-ghost use Rattle.abc_meaning.specs.Openings.{IsRefused, setting};
+ghost use Rattle.abc_meaning.specs.Openings.{IsOpeningRefused, setting};
 
 use crate::calling::{call_for, is_write_fault};
 use crate::ends::End;
@@ -42,13 +42,21 @@ pub struct Machine {
 }
 
 impl Model for Machine {
-    ghost use Rattle.abc_machine.specs.Machines.{Keeps, Opened, kept_world};
+    ghost use Rattle.abc_machine.specs.Machines.{MachineKeeps, Opened, kept_world};
 
     ghost Value = { Opened };
 
-    ghost view = { λ m. record { linked = m.verified; names = m.state.arena.formulas; limits = m.state.arena.limits; ended = m.ended; closed = m.closed; world = kept_world m.state; steps = m.steps } };
+    ghost view = { λ m. record {
+      linked = m.verified;
+      names = m.state.arena.formulas;
+      limits = m.state.arena.limits;
+      ended = m.ended;
+      closed = m.closed;
+      world = kept_world m.state;
+      steps = m.steps;
+    } };
 
-    ghost invariant = { λ m. Keeps m.verified m.state m.seen m.ended m.closed };
+    ghost invariant = { λ m. MachineKeeps m.verified m.state m.seen m.ended m.closed };
 }
 
 /// What a machine begins with: the state of its run, and which scripts a log counts as started.
@@ -65,7 +73,9 @@ fn open_first<H: Host>(
     limits: &Limits,
     host: &H,
 ) -> Result<First, OpenError>
-    ensures { MatchResult result (λ first. IsFirst linked.now (H.formulas host.now) limits.now first.state first.seen) (IsRefused (setting linked.now (H.formulas host.now)) limits.now) }
+    ensures { MatchResult result
+        (λ first. IsFirstState linked.now (H.formulas host.now) limits.now first.state first.seen)
+        (IsOpeningRefused (setting linked.now (H.formulas host.now)) limits.now) }
 {
     let seen = Seen::new(alloc, linked.abc().scripts.len())?;
     let state = open_state(alloc, linked, limits, host)?;
@@ -81,7 +91,8 @@ impl Machine {
         limits: &Limits,
         host: &H,
     ) -> Result<Machine, OpenError>
-        ensures { MatchResult result (IsOpened verified (H.formulas host.now) limits.now) (IsRefused (setting verified (H.formulas host.now)) limits.now) }
+        ensures { MatchResult result (IsOpened verified (H.formulas host.now) limits.now)
+            (IsOpeningRefused (setting verified (H.formulas host.now)) limits.now) }
     {
         let _cells = limits.cells;
         match open_first(alloc, verified.linked(), limits, host) {
@@ -108,7 +119,8 @@ impl Machine {
         ensures ends { self.old.ended ≡ None →
             RunsAs (meaning_of self.old (H.formulas host.now) fuel) (K.written out.old) (K.written out.new) result }
         ensures cause { self.old.ended ≡ None → HasRun (K.faults out.old) (K.faults out.new) result }
-        ensures leaves { self.old.ended ≡ None → LeavesRun self.old self.new (H.formulas host.now) fuel result }
+        ensures leaves { self.old.ended ≡ None
+            → LeavesRun self.old self.new (H.formulas host.now) fuel result }
         ensures again { AnswersAgain self.old self.new out.old out.new result }
         ensures keeps { HasEnded self.old self.new result }
     {
@@ -137,7 +149,8 @@ impl Machine {
             self.old.ended ≡ None →
             LogsRun (log_of self.old formulas fuel) (meaning_of self.old formulas fuel) (K.written log.old) (K.written log.new) result }
         ensures cause { self.old.ended ≡ None → HasRun (K.faults log.old) (K.faults log.new) result }
-        ensures leaves { self.old.ended ≡ None → LeavesRun self.old self.new (H.formulas host.now) fuel result }
+        ensures leaves { self.old.ended ≡ None
+            → LeavesRun self.old self.new (H.formulas host.now) fuel result }
         ensures again { AnswersAgain self.old self.new log.old log.new result }
         ensures keeps { HasEnded self.old self.new result }
     {
@@ -176,10 +189,11 @@ impl Machine {
         out: &mut K,
         host: &H,
     ) -> Reply
-        requires ready { IsReady self.old }
+        requires ready { IsReadyToCall self.old }
         requires names { formula_names (H.formulas host.now) ≡ self.old.names }
         requires method { IsScriptMethod (setting self.old.linked (H.formulas host.now)) method }
-        ensures answers { Answers self.old self.new (call_of method args.now fuel (H.formulas host.now)) (K.written out.old) (K.written out.new) result }
+        ensures answers { AnswersCall self.old self.new (call_of method args.now fuel (H.formulas host.now))
+            (K.written out.old) (K.written out.new) result }
         ensures cause { HasReplied (K.faults out.old) (K.faults out.new) result }
         ensures text { (s : Span) → result ≡ Reply.Value (Text s) → CanTell self.new s }
         ensures texts { KeepsTexts self.old self.new }

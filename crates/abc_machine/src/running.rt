@@ -4,7 +4,7 @@ ghost use Rattle.abc_run_dispatch.specs.Held.{IsHeld};
 ghost use Rattle.abc_meaning.specs.Logs.{steps_for};
 ghost use Rattle.abc_machine.specs.Ended.{HasRun, RunsAs};
 ghost use Rattle.abc_machine.specs.Replied.{HasReplied, RepliesAs, plain_value};
-ghost use Rattle.abc_machine.specs.Runs.{Begun, IsAt, Leaves};
+ghost use Rattle.abc_machine.specs.Runs.{Begun, IsRunAt, LeavesWorld};
 ghost use Rattle.abc_machine.specs.Texts.{TextsGrow};
 ghost use Rattle.abc_machine.specs.Spent.{SpendsAs, as_reply, end_for as end_of, reply_for as reply_of};
 ghost use Rattle.abc_machine.specs.declared.ends.End.TheVariants.{WriteFault as FailedRun};
@@ -104,8 +104,10 @@ fn spend<'a, K: Sink, H: Host>(
     requires held { IsHeld linked.now held.old }
     requires none { left.old ≡ Ok Goes }
     requires going { halted.old ≡ Ok tt }
-    ensures spends { SpendsAs linked.now out s.old fuel.old (as_reply halted.new) s.new fuel.new (K.written sink.old) (K.written sink.new) }
-    ensures leaves { LeavesStep (setting linked.now out.formulas) halted.new s.old s.new (K.faults sink.old) (K.faults sink.new) }
+    ensures spends { SpendsAs linked.now out s.old fuel.old (as_reply halted.new) s.new fuel.new
+        (K.written sink.old) (K.written sink.new) }
+    ensures leaves { LeavesStep (setting linked.now out.formulas) halted.new s.old s.new (K.faults sink.old)
+        (K.faults sink.new) }
     ensures taken { fuel.new + 1 ≡ fuel.old }
     ensures held { IsHeld linked.now held.new }
     ensures none { left.new ≡ Ok Goes }
@@ -124,13 +126,17 @@ pub(crate) fn take_steps<K: Sink, H: Host>(
     host: &H,
 ) -> Reply
     ghost begun: { Begun }
-    requires at { IsAt linked.now begun fuel.old s.old (K.written sink.old) (K.written sink.old) }
+    requires at { IsRunAt linked.now begun fuel.old s.old (K.written sink.old) (K.written sink.old) }
     requires host { begun.formulas ≡ H.formulas host.now }
     requires whole { begun.fuel ≡ fuel.old }
-    ensures replies { RepliesAs (replies_for (setting linked.now begun.formulas) fuel.old begun.first) (K.written sink.old) (K.written sink.new) result }
+    ensures replies { RepliesAs (replies_for (setting linked.now begun.formulas) fuel.old begun.first)
+        (K.written sink.old) (K.written sink.new) result }
     ensures cause { HasReplied (K.faults sink.old) (K.faults sink.new) result }
-    ensures leaves { result ≢ WriteFault → Leaves (setting linked.now begun.formulas) (replies_for (setting linked.now begun.formulas) fuel.old begun.first).world s.new }
-    ensures steps { result ≢ WriteFault → steps_for (setting linked.now begun.formulas) fuel.old begun.first + fuel.new ≡ fuel.old }
+    ensures leaves { result ≢ WriteFault
+        → LeavesWorld (setting linked.now begun.formulas)
+        (replies_for (setting linked.now begun.formulas) fuel.old begun.first).world s.new }
+    ensures steps { result ≢ WriteFault
+        → steps_for (setting linked.now begun.formulas) fuel.old begun.first + fuel.new ≡ fuel.old }
     ensures few { fuel.new ≤ fuel.old }
     ensures limit { s.new.given.limit ≡ s.old.given.limit }
     ensures texts { TextsGrow begun.first.world.heap s.new.arena }
@@ -170,13 +176,17 @@ pub(crate) fn run_for<K: Sink, H: Host>(
     host: &H,
 ) -> End
     ghost begun: { Begun }
-    requires at { IsAt linked.now begun fuel.old s.old (K.written sink.old) (K.written sink.old) }
+    requires at { IsRunAt linked.now begun fuel.old s.old (K.written sink.old) (K.written sink.old) }
     requires host { begun.formulas ≡ H.formulas host.now }
     requires whole { begun.fuel ≡ fuel.old }
-    ensures runs { RunsAs (ran (runs_for (setting linked.now begun.formulas) fuel.old begun.first)) (K.written sink.old) (K.written sink.new) result }
+    ensures runs { RunsAs (ran (runs_for (setting linked.now begun.formulas) fuel.old begun.first))
+        (K.written sink.old) (K.written sink.new) result }
     ensures cause { HasRun (K.faults sink.old) (K.faults sink.new) result }
-    ensures leaves { result ≢ FailedRun → Leaves (setting linked.now begun.formulas) (runs_for (setting linked.now begun.formulas) fuel.old begun.first).world s.new }
-    ensures steps { result ≢ FailedRun → steps_for (setting linked.now begun.formulas) fuel.old begun.first + fuel.new ≡ fuel.old }
+    ensures leaves { result ≢ FailedRun
+        → LeavesWorld (setting linked.now begun.formulas)
+        (runs_for (setting linked.now begun.formulas) fuel.old begun.first).world s.new }
+    ensures steps { result ≢ FailedRun
+        → steps_for (setting linked.now begun.formulas) fuel.old begun.first + fuel.new ≡ fuel.old }
     ensures few { fuel.new ≤ fuel.old }
     ensures limit { s.new.given.limit ≡ s.old.given.limit }
 {

@@ -1,16 +1,16 @@
 ghost use Rattle.std.specs.Prelude.{◌≡◌, ◌≢◌, ◌<◌, ℕ, List, length, true, Err, Ok, MatchOption};
 ghost use Rattle.std.specs.declared.option.Option.{Option};
-ghost use Rattle.abc_meaning.specs.Calls.{returned};
+ghost use Rattle.abc_meaning.specs.Calls.{value_at_end};
 ghost use Rattle.abc_heap_values.specs.declared.values.Value.{Value};
 ghost use Rattle.abc_run_calls.specs.Calls.{CanFinish};
 ghost use Rattle.abc_run_dispatch.specs.Held.{IsHeld};
 ghost use Rattle.abc_run_finish.specs.Ending.{IsSized};
-ghost use Rattle.abc_run_calls.specs.Arguments.{IsKnown};
+ghost use Rattle.abc_run_calls.specs.Arguments.{HasArgumentRoom};
 ghost use Rattle.abc_run_finish.specs.Fairly.{CanStart, IsFairTurn};
 ghost use Rattle.abc_run_finish.specs.Steps.{IsReached, LeavesStep, StepsAs, StepsIn, left_here};
 ghost use Rattle.abc_run_finish.specs.declared.halts.Halt.TheVariants.{Fails, Returns};
-ghost use Rattle.abc_run_state.specs.Outer.{Outer, setting, world};
-ghost use Rattle.abc_run_state.specs.Turns.{answered};
+ghost use Rattle.abc_run_state.specs.Outer.{Outer, setting_in, world};
+ghost use Rattle.abc_run_state.specs.Turns.{turn_of_answer};
 ghost use Rattle.abc_run_state.specs.declared.state.Left.TheVariants.{Goes};
 
 use abc_base::{Host, Sink};
@@ -54,7 +54,7 @@ fn start_over(linked: &Linked, s: &mut State, halted: &mut Result<(), Halt>) -> 
     ensures step { (before : Option (List ℕ)) → StepsAs linked.now out s.old halted.new s.new before before }
     ensures ends { halted.new ≢ Err Fails }
     ensures none { (v : Value) → halted.new ≢ Err (Returns v) }
-    ensures sized { IsSized (setting linked.now out) s.new.arena.limits s.new.frames }
+    ensures sized { IsSized (setting_in linked.now out) s.new.arena.limits s.new.frames }
     ensures goes { result ≡ true → halted.new ≡ Ok tt }
     ensures limit { s.new.given.limit ≡ s.old.given.limit }
 {
@@ -85,16 +85,19 @@ fn finish_returned<K: Sink, H: Host>(
     halted: &mut Result<(), Halt>,
 ) -> bool
     ghost out: { Outer }
-    requires known { IsKnown linked.now s.old.given.limit }
+    requires known { HasArgumentRoom linked.now s.old.given.limit }
     requires scripts { 0 < length linked.now.file.scripts }
     requires host { out.formulas ≡ H.formulas host.now }
     requires finishes { CanFinish linked.now left.old s.old }
-    requires fair { IsFairTurn (setting linked.now out) (answered (setting linked.now out) left.old (world s.old out) s.old.frames) }
+    requires fair { IsFairTurn (setting_in linked.now out)
+        (turn_of_answer (setting_in linked.now out) left.old (world s.old out) s.old.frames) }
     requires returns { left.old ≡ Ok (Left.Returns v) }
     requires going { halted.old ≡ Ok tt }
-    ensures step { StepsIn (left_here linked.now out s.old left.old) out halted.new s.new (K.written sink.old) (K.written sink.new) }
+    ensures step { StepsIn (left_here linked.now out s.old left.old) out halted.new s.new (K.written sink.old)
+        (K.written sink.new) }
     ensures value { (v : Value) → halted.new ≡ Err (Returns v) → left.old ≡ Ok (Left.Returns v) }
-    ensures leaves { LeavesStep (setting linked.now out) halted.new s.old s.new (K.faults sink.old) (K.faults sink.new) }
+    ensures leaves { LeavesStep (setting_in linked.now out) halted.new s.old s.new (K.faults sink.old)
+        (K.faults sink.new) }
     ensures none { left.new ≡ Ok Goes }
     ensures goes { result ≡ true → halted.new ≡ Ok tt }
 {
@@ -114,14 +117,17 @@ fn finish_any<K: Sink, H: Host>(
     halted: &mut Result<(), Halt>,
 ) -> bool
     ghost out: { Outer }
-    requires known { IsKnown linked.now s.old.given.limit }
+    requires known { HasArgumentRoom linked.now s.old.given.limit }
     requires scripts { 0 < length linked.now.file.scripts }
     requires host { out.formulas ≡ H.formulas host.now }
     requires finishes { CanFinish linked.now left.old s.old }
-    requires fair { IsFairTurn (setting linked.now out) (answered (setting linked.now out) left.old (world s.old out) s.old.frames) }
-    ensures step { StepsIn (left_here linked.now out s.old left.old) out halted.new s.new (K.written sink.old) (K.written sink.new) }
+    requires fair { IsFairTurn (setting_in linked.now out)
+        (turn_of_answer (setting_in linked.now out) left.old (world s.old out) s.old.frames) }
+    ensures step { StepsIn (left_here linked.now out s.old left.old) out halted.new s.new (K.written sink.old)
+        (K.written sink.new) }
     ensures value { (v : Value) → halted.new ≡ Err (Returns v) → left.old ≡ Ok (Left.Returns v) }
-    ensures leaves { LeavesStep (setting linked.now out) halted.new s.old s.new (K.faults sink.old) (K.faults sink.new) }
+    ensures leaves { LeavesStep (setting_in linked.now out) halted.new s.old s.new (K.faults sink.old)
+        (K.faults sink.new) }
     ensures none { left.new ≡ Ok Goes }
     ensures goes { result ≡ true → halted.new ≡ Ok tt }
 {
@@ -143,15 +149,18 @@ fn finish_left<K: Sink, H: Host>(
     halted: &mut Result<(), Halt>,
 ) -> bool
     ghost out: { Outer }
-    requires known { IsKnown linked.now s.old.given.limit }
+    requires known { HasArgumentRoom linked.now s.old.given.limit }
     requires scripts { 0 < length linked.now.file.scripts }
     requires host { out.formulas ≡ H.formulas host.now }
     requires finishes { CanFinish linked.now left.old s.old }
-    requires fair { IsFairTurn (setting linked.now out) (answered (setting linked.now out) left.old (world s.old out) s.old.frames) }
+    requires fair { IsFairTurn (setting_in linked.now out)
+        (turn_of_answer (setting_in linked.now out) left.old (world s.old out) s.old.frames) }
     requires going { halted.old ≡ Ok tt }
-    ensures step { StepsIn (left_here linked.now out s.old left.old) out halted.new s.new (K.written sink.old) (K.written sink.new) }
+    ensures step { StepsIn (left_here linked.now out s.old left.old) out halted.new s.new (K.written sink.old)
+        (K.written sink.new) }
     ensures value { (v : Value) → halted.new ≡ Err (Returns v) → left.old ≡ Ok (Left.Returns v) }
-    ensures leaves { LeavesStep (setting linked.now out) halted.new s.old s.new (K.faults sink.old) (K.faults sink.new) }
+    ensures leaves { LeavesStep (setting_in linked.now out) halted.new s.old s.new (K.faults sink.old)
+        (K.faults sink.new) }
     ensures none { left.new ≡ Ok Goes }
     ensures goes { result ≡ true → halted.new ≡ Ok tt }
 {
@@ -183,8 +192,10 @@ pub fn step_on<'a, K: Sink, H: Host>(
     requires none { left.old ≡ Ok Goes }
     requires going { halted.old ≡ Ok tt }
     ensures step { StepsAs linked.now out s.old halted.new s.new (K.written sink.old) (K.written sink.new) }
-    ensures value { (v : Value) → halted.new ≡ Err (Returns v) → returned (setting linked.now out) (world s.old out) s.old.frames.living ≡ v }
-    ensures leaves { LeavesStep (setting linked.now out) halted.new s.old s.new (K.faults sink.old) (K.faults sink.new) }
+    ensures value { (v : Value) → halted.new ≡ Err (Returns v)
+        → value_at_end (setting_in linked.now out) (world s.old out) s.old.frames.living ≡ v }
+    ensures leaves { LeavesStep (setting_in linked.now out) halted.new s.old s.new (K.faults sink.old)
+        (K.faults sink.new) }
     ensures held { IsHeld linked.now held.new }
     ensures none { left.new ≡ Ok Goes }
     ensures goes { result ≡ true → halted.new ≡ Ok tt }
@@ -210,8 +221,10 @@ pub fn step<K: Sink, H: Host>(
     requires reached { IsReached linked.now out s.old }
     requires host { out.formulas ≡ H.formulas host.now }
     ensures step { StepsAs linked.now out s.old result s.new (K.written sink.old) (K.written sink.new) }
-    ensures value { (v : Value) → result ≡ Err (Returns v) → returned (setting linked.now out) (world s.old out) s.old.frames.living ≡ v }
-    ensures leaves { LeavesStep (setting linked.now out) result s.old s.new (K.faults sink.old) (K.faults sink.new) }
+    ensures value { (v : Value) → result ≡ Err (Returns v)
+        → value_at_end (setting_in linked.now out) (world s.old out) s.old.frames.living ≡ v }
+    ensures leaves { LeavesStep (setting_in linked.now out) result s.old s.new (K.faults sink.old)
+        (K.faults sink.new) }
 {
     let mut held = hold(linked, 0);
     let mut left = Ok(Left::Goes);

@@ -10,8 +10,8 @@ use Rattle.abc_heap_store.specs.declared.records.Limit.TheVariants.{Objects, Cel
 use Rattle.abc_ops.specs.Left.{Left}
 use Rattle.abc_ops.specs.declared.end.OpEnd.{OpEnd}
 use Rattle.abc_meaning.specs.Ops.{operates, outcome}
-use Rattle.abc_meaning.specs.World.{Fills, Outcome, Run, Stop, Stopped, Went, World, and_then, done, each_of, must, room, room_for_cells, room_for_objects, some, stop, with_heap}
-use Rattle.abc_meaning.specs.Front.{Changes, IsFront, Keeps, Starts}
+use Rattle.abc_meaning.specs.World.{Fills, Outcome, Run, Stop, Stopped, Went, World, and_then, pure, each_of, must, room, room_for_cells, room_for_objects, some, stop, with_heap}
+use Rattle.abc_meaning.specs.Front.{Changes, IsWorldFront, FrontKeeps, Starts}
 
 abbrev pub world_of : {X : Type 0} → Outcome X → World
 world_of (Went n x) = n
@@ -19,7 +19,7 @@ world_of (Stopped n why) = n
 
 -- nothing is written, and no script is started
 pub record Quiet {X : Type 0} (w : World) (o : Outcome X) : Type 0 where
-  pub kept : Keeps w (world_of o)
+  pub kept : FrontKeeps w (world_of o)
 
 -- something is written or a script is started, and not both
 pub record Once {X : Type 0} (w : World) (o : Outcome X) : Type 0 where
@@ -29,36 +29,36 @@ pub record Once {X : Type 0} (w : World) (o : Outcome X) : Type 0 where
 pub record Starting {X : Type 0} (w : World) (o : Outcome X) : Type 0 where
   pub starts : Starts w (world_of o)
 
-pub same_front : (w n : World) → n.wrote ≡ w.wrote → IsFront w n
+pub same_front : (w n : World) → n.wrote ≡ w.wrote → IsWorldFront w n
 same_front w n e = record { more = []; is = e ∙ sym (append-nil w.wrote) }
 
-pub front_on : (u w n : World) → IsFront u w → IsFront w n → IsFront u n
+pub front_on : (u w n : World) → IsWorldFront u w → IsWorldFront w n → IsWorldFront u n
 front_on u w n a b = record { more = a.more ++ b.more; is = b.is ∙ ap (λ (xs : List ℕ). xs ++ b.more) a.is ∙ append_assoc u.wrote a.more b.more }
 
-pub front_of : (w n : World) → Changes w n → IsFront w n
+pub front_of : (w n : World) → Changes w n → IsWorldFront w n
 front_of w n (inl a) = record { more = a.more; is = a.is }
 front_of w n (inr a) = same_front w n a.wrote
 
 -- ---- one after the other
 
-pub keeps_self : (w : World) → Keeps w w
+pub keeps_self : (w : World) → FrontKeeps w w
 keeps_self w = record { wrote = refl; started = refl }
 
-pub keeps_on : (u w n : World) → Keeps u w → Keeps w n → Keeps u n
+pub keeps_on : (u w n : World) → FrontKeeps u w → FrontKeeps w n → FrontKeeps u n
 keeps_on u w n a b = record { wrote = b.wrote ∙ a.wrote; started = b.started ∙ a.started }
 
-pub changes_none : (w n : World) → Keeps w n → Changes w n
+pub changes_none : (w n : World) → FrontKeeps w n → Changes w n
 changes_none w n a = inl (record { more = []; is = a.wrote ∙ sym (append-nil w.wrote); started = a.started })
 
-pub changes_first : (u w n : World) → Changes u w → Keeps w n → Changes u n
+pub changes_first : (u w n : World) → Changes u w → FrontKeeps w n → Changes u n
 changes_first u w n (inl a) b = inl (record { more = a.more; is = b.wrote ∙ a.is; started = b.started ∙ a.started })
 changes_first u w n (inr a) b = inr (record { script = a.script; is = b.started ∙ a.is; wrote = b.wrote ∙ a.wrote })
 
-pub changes_last : (u w n : World) → Keeps u w → Changes w n → Changes u n
+pub changes_last : (u w n : World) → FrontKeeps u w → Changes w n → Changes u n
 changes_last u w n a (inl b) = inl (record { more = b.more; is = b.is ∙ ap (λ (xs : List ℕ). xs ++ b.more) a.wrote; started = b.started ∙ a.started })
 changes_last u w n a (inr b) = inr (record { script = b.script; is = b.is ∙ ap (λ (xs : List Bool). set xs b.script true) a.started; wrote = b.wrote ∙ a.wrote })
 
-pub starts_on : (u w n : World) → Starts u w → Keeps w n → Starts u n
+pub starts_on : (u w n : World) → Starts u w → FrontKeeps w n → Starts u n
 starts_on u w n a b = record { script = a.script; is = b.started ∙ a.is; wrote = b.wrote ∙ a.wrote }
 
 pub starting_then : {X Y : Type 0} (w : World) (o : Outcome X) (f : X → Run Y) → Starting w o → ((n : World) (x : X) → Quiet n (f x n)) → Starting w (and_then o f)
@@ -105,7 +105,7 @@ each_quiet f g w (x ∷ xs) = then_quiet w _ _ (g w x) (λ n y. then_quiet n _ _
 -- ---- room, and changes of the heap
 
 pub room_quiet : (w : World) (which : Limit) (used need limit : ℕ) → Quiet w (room which used need limit w)
-room_quiet w which used need limit = if_quiet w (nat_le (used + need) limit) (done tt) (stop (Fills which)) (done_quiet w tt) (stop_quiet w (Fills which))
+room_quiet w which used need limit = if_quiet w (nat_le (used + need) limit) (pure tt) (stop (Fills which)) (done_quiet w tt) (stop_quiet w (Fills which))
 
 pub objects_quiet : (w : World) (need : ℕ) → Quiet w (room_for_objects need w)
 objects_quiet w need = room_quiet w Objects (length w.heap.objects) need w.heap.limits.objects
@@ -118,7 +118,7 @@ heap_quiet w h x = record { kept = record { wrote = refl; started = refl } }
 
 -- ---- operations
 
-pub outcome_quiet : {X : Type 0} (w n : World) (r : Result X OpEnd) → Keeps w n → Quiet w (outcome n r)
+pub outcome_quiet : {X : Type 0} (w n : World) (r : Result X OpEnd) → FrontKeeps w n → Quiet w (outcome n r)
 outcome_quiet w n (Ok x) k = record { kept = k }
 outcome_quiet w n (Err end) k = record { kept = k }
 

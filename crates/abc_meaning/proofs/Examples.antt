@@ -3,17 +3,17 @@ use Rattle.std.proofs.Common.{refl}
 use Rattle.std.specs.Fmt.{digits}
 use Rattle.std.specs.Int.{int_wrap}
 use Rattle.abc_base_graphs.specs.Ways.{way}
-use Rattle.abc_objects.specs.Candidates.{answer}
+use Rattle.abc_objects.specs.Candidates.{answer_of_search}
 use Rattle.abc_objects.specs.Searches.{declared_found, found_in_scopes, found_on}
-use Rattle.abc_heap_values.specs.Modular.{unsigned}
-use Rattle.abc_verify_typing.specs.Rows.{row_at, table}
+use Rattle.abc_heap_values.specs.Modular.{modulo_unsigned}
+use Rattle.abc_verify_typing.specs.Rows.{row_at, table_of_rows}
 use Rattle.abc_meaning.specs.Examples.{RunExamples, WaitExamples}
 use Rattle.abc_meaning.specs.Meaning.{meaning}
 use Rattle.abc_meaning.specs.StuckExamples.{StuckExamples}
 use Rattle.abc_meaning.specs.Table.{act_of, acts}
 
 pub run_examples : RunExamples
-unfolding meaning acts act_of table row_at way answer declared_found found_on found_in_scopes digits unsigned int_wrap
+unfolding meaning acts act_of table_of_rows row_at way answer_of_search declared_found found_on found_in_scopes digits modulo_unsigned int_wrap
 run_examples = record {
   returns = refl;
   spent = refl;
@@ -38,7 +38,7 @@ run_examples = record {
 }
 
 pub wait_examples : WaitExamples
-unfolding acts act_of table row_at way answer declared_found found_on found_in_scopes digits unsigned int_wrap
+unfolding acts act_of table_of_rows row_at way answer_of_search declared_found found_on found_in_scopes digits modulo_unsigned int_wrap
 wait_examples = record {
   pushes = refl;
   getter_pushes = refl;
@@ -50,7 +50,7 @@ wait_examples = record {
 }
 
 pub stuck_examples : StuckExamples
-unfolding acts act_of table row_at way answer declared_found found_on found_in_scopes
+unfolding acts act_of table_of_rows row_at way answer_of_search declared_found found_on found_in_scopes
 stuck_examples = record {
   method_without_body = (refl, refl);
   past_the_code = (refl, refl);

@@ -14,16 +14,16 @@ use Rattle.abc_link_names.specs.declared.types.Owner.{Owner}
 use Rattle.abc_link_names.specs.declared.types.SlotInfo.{SlotInfo}
 use Rattle.abc_objects.specs.ElementNames.{ElementName, IsLength, IsNumber}
 use Rattle.abc_objects.specs.Searches.{declared_found}
-use Rattle.abc_objects.specs.Spaces.{holds_public}
+use Rattle.abc_objects.specs.Spaces.{name_holds_public}
 use Rattle.abc_objects.specs.declared.found.Found.{Found}
 use Rattle.abc_objects.specs.declared.found.Found.TheVariants.{Slot, Method, Getter, Setter, Property, Element, Length, WrongSide, Missing}
 use Rattle.abc_objects.specs.declared.found.Want.TheVariants.{Write}
 use Rattle.abc_objects.specs.declared.name.Name.{Name}
-use Rattle.abc_meaning.specs.Members.{at_place, bound_function, call_found, calls_name, delete_found, deletes, deletes_own, element_of, find_on, is_dynamic, may_hold, read_found, reads, slot_info, undefined_if, value_found, with_holder, write_element, write_found, write_own, write_property, write_slot, writes_to}
+use Rattle.abc_meaning.specs.Members.{value_at_place, bound_function, call_found, calls_name, delete_found, deletes, deletes_own, element_of, find_on, is_dynamic, may_hold, read_found, reads, slot_info, undefined_if, value_found, with_holder, write_element, write_found, write_own, write_property, write_slot, writes_to}
 use Rattle.abc_meaning.specs.Calling.{calls, got}
 use Rattle.abc_meaning.specs.Objects.{own_place, set_property, without_property}
 use Rattle.abc_meaning.specs.Setting.{Setting, is_dynamic_layout}
-use Rattle.abc_meaning.specs.World.{Errs, Faults, Run, Sticks, World, and_then, changes, done, object, throws}
+use Rattle.abc_meaning.specs.World.{Errs, Faults, Run, Sticks, World, and_then, changes, pure, object_named, throws}
 use Rattle.abc_meaning.proofs.Adding.{Once, Quiet, cells_quiet, done_quiet, heap_quiet, if_quiet, once, some_quiet, stop_quiet, then_once, then_quiet}
 use Rattle.abc_meaning.proofs.Entering.{coerces_quiet, new_of_host_quiet, owned_quiet, place_quiet, set_property_quiet}
 use Rattle.abc_meaning.proofs.Values.{calls_once}
@@ -46,8 +46,8 @@ holder_once w (values.Text t) m a = a
 holder_once w (values.Space n) m a = a
 holder_once w (values.Obj o) m a = a
 
-at_place_quiet : (w : World) (which : Object → List Value) (o : ObjId) (k : ℕ) → Quiet w (at_place which o k w)
-at_place_quiet w which o k = then_quiet w _ _ (some_quiet w (object o w)) (λ (n : World) (ob : Object). some_quiet n (slice_get (which ob) k))
+at_place_quiet : (w : World) (which : Object → List Value) (o : ObjId) (k : ℕ) → Quiet w (value_at_place which o k w)
+at_place_quiet w which o k = then_quiet w _ _ (some_quiet w (object_named o w)) (λ (n : World) (ob : Object). some_quiet n (slice_get (which ob) k))
 
 undefined_quiet : (w : World) (b : Bool) → Quiet w (undefined_if b w)
 undefined_quiet w true = done_quiet w values.Undefined
@@ -69,7 +69,7 @@ module _ (p : Setting) where
   value_quiet w (Slot k constant) (values.Space n) = stop_quiet w Sticks
   value_quiet w (Property holder x) v = done_quiet w x
   value_quiet w (Element holder k) v = at_place_quiet w (λ ob. ob.elements) holder k
-  value_quiet w (Length holder) v = then_quiet w _ _ (some_quiet w (object holder w)) (λ (n : World) (ob : Object). done_quiet n (values.Num (pos (length ob.elements))))
+  value_quiet w (Length holder) v = then_quiet w _ _ (some_quiet w (object_named holder w)) (λ (n : World) (ob : Object). done_quiet n (values.Num (pos (length ob.elements))))
   value_quiet w WrongSide v = stop_quiet w (Errs hosts.ReferenceError)
   value_quiet w Missing v = undefined_quiet w (is_dynamic p v w)
   value_quiet w (Method owner m) v = stop_quiet w Sticks
@@ -109,7 +109,7 @@ module _ (p : Setting) where
 
   pub write_slot_quiet : (w : World) (o : ObjId) (k : ℕ) (x : Value) → Quiet w (write_slot p o k x w)
   write_slot_quiet w o k x =
-      then_quiet w _ _ (some_quiet w (object o w)) (λ (n : World) (ob : Object).
+      then_quiet w _ _ (some_quiet w (object_named o w)) (λ (n : World) (ob : Object).
       then_quiet n _ _ (some_quiet n (slot_info p ob.layout k)) (λ (i : World) (slot : SlotInfo).
       then_quiet i _ _ (coerces_quiet p i slot.ty x) (λ j v. heap_quiet j _ _)))
 
@@ -124,21 +124,21 @@ module _ (p : Setting) where
   own_quiet w o ob text x None = if_quiet w (may_hold (own_place p o text w) (is_dynamic_layout p ob.layout)) (set_property p o text x) (throws hosts.ReferenceError) (set_property_quiet p w o text x) (stop_quiet w (Errs hosts.ReferenceError))
 
   property_quiet : (w : World) (o : ObjId) (text : Span) (x : Value) → Quiet w (write_property p o text x w)
-  property_quiet w o text x = then_quiet w _ _ (some_quiet w (object o w)) (λ (n : World) (ob : Object). own_quiet n o ob text x (element_of p ob text n))
+  property_quiet w o text x = then_quiet w _ _ (some_quiet w (object_named o w)) (λ (n : World) (ob : Object). own_quiet n o ob text x (element_of p ob text n))
 
   pub write_quiet : (w : World) (o : ObjId) (name : Name) (x : Value) (initial : Bool) (found : Found) → Quiet w (write_found p o name x initial found w)
   write_quiet w o name x initial (Slot k constant) = if_quiet w (constant && not initial) _ _ (stop_quiet w (Errs hosts.ReferenceError)) (then_quiet w _ _ (write_slot_quiet w o k x) (λ n u. done_quiet n _))
   write_quiet w o name x initial (Setter m) = then_quiet w _ _ (owned_quiet p w m (values.Obj o) (x ∷ [])) (λ n g. done_quiet n _)
   write_quiet w o name x initial (Method owner m) = stop_quiet w (Errs hosts.ReferenceError)
   write_quiet w o name x initial WrongSide = stop_quiet w (Errs hosts.ReferenceError)
-  write_quiet w o name x initial Missing = if_quiet w (holds_public p.linked name.spaces) _ _ (then_quiet w _ _ (property_quiet w o name.text x) (λ n u. done_quiet n _)) (stop_quiet w (Errs hosts.ReferenceError))
+  write_quiet w o name x initial Missing = if_quiet w (name_holds_public p.linked name.spaces) _ _ (then_quiet w _ _ (property_quiet w o name.text x) (λ n u. done_quiet n _)) (stop_quiet w (Errs hosts.ReferenceError))
   write_quiet w o name x initial (Getter m) = stop_quiet w Sticks
   write_quiet w o name x initial (Property holder v) = stop_quiet w Sticks
   write_quiet w o name x initial (Element holder k) = stop_quiet w Sticks
   write_quiet w o name x initial (Length holder) = stop_quiet w Sticks
 
   pub writes_to_quiet : (w : World) (v : Value) (name : Name) (x : Value) (initial : Bool) → Quiet w (writes_to p v name x initial w)
-  writes_to_quiet w (values.Obj o) name x initial = then_quiet w _ _ (some_quiet w (object o w)) (λ (n : World) (ob : Object). write_quiet n o name x initial (declared_found p.linked n.heap ob.layout ob.layout name Write))
+  writes_to_quiet w (values.Obj o) name x initial = then_quiet w _ _ (some_quiet w (object_named o w)) (λ (n : World) (ob : Object). write_quiet n o name x initial (declared_found p.linked n.heap ob.layout ob.layout name Write))
   writes_to_quiet w values.Undefined name x initial = holder_quiet w values.Undefined (throws hosts.ReferenceError) (stop_quiet w (Errs hosts.ReferenceError))
   writes_to_quiet w values.Null name x initial = holder_quiet w values.Null (throws hosts.ReferenceError) (stop_quiet w (Errs hosts.ReferenceError))
   writes_to_quiet w (values.Num n) name x initial = holder_quiet w (values.Num n) (throws hosts.ReferenceError) (stop_quiet w (Errs hosts.ReferenceError))
@@ -195,9 +195,9 @@ module _ (p : Setting) where
 
   pub deletes_quiet : (w : World) (v : Value) (name : Name) → Quiet w (deletes p v name w)
   deletes_quiet w (values.Obj o) name = if_quiet w (is_dynamic p (values.Obj o) w) _ _ (delete_quiet w o name.text (find_on p (values.Obj o) name w)) (done_quiet w false)
-  deletes_quiet w values.Undefined name = holder_quiet w values.Undefined (done false) (done_quiet w false)
-  deletes_quiet w values.Null name = holder_quiet w values.Null (done false) (done_quiet w false)
-  deletes_quiet w (values.Num n) name = holder_quiet w (values.Num n) (done false) (done_quiet w false)
-  deletes_quiet w (values.Bool b) name = holder_quiet w (values.Bool b) (done false) (done_quiet w false)
-  deletes_quiet w (values.Text t) name = holder_quiet w (values.Text t) (done false) (done_quiet w false)
-  deletes_quiet w (values.Space n) name = holder_quiet w (values.Space n) (done false) (done_quiet w false)
+  deletes_quiet w values.Undefined name = holder_quiet w values.Undefined (pure false) (done_quiet w false)
+  deletes_quiet w values.Null name = holder_quiet w values.Null (pure false) (done_quiet w false)
+  deletes_quiet w (values.Num n) name = holder_quiet w (values.Num n) (pure false) (done_quiet w false)
+  deletes_quiet w (values.Bool b) name = holder_quiet w (values.Bool b) (pure false) (done_quiet w false)
+  deletes_quiet w (values.Text t) name = holder_quiet w (values.Text t) (pure false) (done_quiet w false)
+  deletes_quiet w (values.Space n) name = holder_quiet w (values.Space n) (pure false) (done_quiet w false)

@@ -5,8 +5,8 @@ use Rattle.std.proofs.lemmas.Bool.{cases_lt, false≢true}
 use Rattle.std.proofs.lemmas.List.{get_or_past}
 use Rattle.std.proofs.lemmas.List.Folds.{Any-from_list_any, list_any_at}
 use Rattle.std.proofs.lemmas.Map.Steps.{length-le_from_distinct_below}
-use Rattle.abc_base_graphs.specs.Graph.{Edge, Leads, Then, targets}
-use Rattle.abc_meaning.specs.Types.{leads}
+use Rattle.abc_base_graphs.specs.Graph.{Edge, Leads, Then, leads_to}
+use Rattle.abc_meaning.specs.Types.{leads_within}
 
 -- ---- tests
 
@@ -31,35 +31,35 @@ any_target p xs v (k, lt, e) t = list_any_at p xs k v lt (ap p e ∙ t)
 
 -- ---- what is computed is so
 
-pub leads_sound : (g : List (List ℕ)) (n x y : ℕ) → leads g n x y ≡ true → Leads g x y
+pub leads_sound : (g : List (List ℕ)) (n x y : ℕ) → leads_within g n x y ≡ true → Leads g x y
 leads_sound g zero x y e = absurd (false≢true e)
-leads_sound g (suc n) x y e = go (leads_sound g n) (Any-from_list_any (λ z. nat_eq y z || leads g n z y) (targets g x) e)
+leads_sound g (suc n) x y e = go (leads_sound g n) (Any-from_list_any (λ z. nat_eq y z || leads_within g n z y) (leads_to g x) e)
   where
-    step : ((u v : ℕ) → leads g n u v ≡ true → Leads g u v) → (z : ℕ) → Contains (targets g x) z → (b : Bool) → nat_eq y z ≡ b → (b || leads g n z y) ≡ true → Leads g x y
-    step more z c true is t = Edge (subst (λ w. Contains (targets g x) w) (sym (eqb-true y z is)) c)
+    step : ((u v : ℕ) → leads_within g n u v ≡ true → Leads g u v) → (z : ℕ) → Contains (leads_to g x) z → (b : Bool) → nat_eq y z ≡ b → (b || leads_within g n z y) ≡ true → Leads g x y
+    step more z c true is t = Edge (subst (λ w. Contains (leads_to g x) w) (sym (eqb-true y z is)) c)
     step more z c false is t = Then c (more z y t)
 
-    go : ((u v : ℕ) → leads g n u v ≡ true → Leads g u v) → Any (λ z. (nat_eq y z || leads g n z y) ≡ true) (targets g x) → Leads g x y
+    go : ((u v : ℕ) → leads_within g n u v ≡ true → Leads g u v) → Any (λ z. (nat_eq y z || leads_within g n z y) ≡ true) (leads_to g x) → Leads g x y
     go more (k, z, lt, is, t) = step more z (k, lt, is) (nat_eq y z) refl t
 
 -- ---- trails: nodes of which each has an edge to the next, and the last to the end
 
 abbrev IsTrail : List (List ℕ) → List ℕ → ℕ → Type 0
 IsTrail g [] y = ⊥
-IsTrail g (u ∷ []) y = Contains (targets g u) y
-IsTrail g (u ∷ v ∷ vs) y = Contains (targets g u) v × IsTrail g (v ∷ vs) y
+IsTrail g (u ∷ []) y = Contains (leads_to g u) y
+IsTrail g (u ∷ v ∷ vs) y = Contains (leads_to g u) v × IsTrail g (v ∷ vs) y
 
-trail_leads : (g : List (List ℕ)) (u : ℕ) (us : List ℕ) (y : ℕ) → IsTrail g (u ∷ us) y → leads g (suc (length us)) u y ≡ true
-trail_leads g u [] y c = any_target (λ z. nat_eq y z || leads g zero z y) (targets g u) y c (ap (λ b. b || false) (eq-eqb y y refl))
-trail_leads g u (v ∷ vs) y (c, t) = any_target (λ z. nat_eq y z || leads g (suc (length vs)) z y) (targets g u) v c (ap (λ b. nat_eq y v || b) (trail_leads g v vs y t) ∙ or_true (nat_eq y v))
+trail_leads : (g : List (List ℕ)) (u : ℕ) (us : List ℕ) (y : ℕ) → IsTrail g (u ∷ us) y → leads_within g (suc (length us)) u y ≡ true
+trail_leads g u [] y c = any_target (λ z. nat_eq y z || leads_within g zero z y) (leads_to g u) y c (ap (λ b. b || false) (eq-eqb y y refl))
+trail_leads g u (v ∷ vs) y (c, t) = any_target (λ z. nat_eq y z || leads_within g (suc (length vs)) z y) (leads_to g u) v c (ap (λ b. nat_eq y v || b) (trail_leads g v vs y t) ∙ or_true (nat_eq y v))
 
-leads_more : (g : List (List ℕ)) (n x y : ℕ) → leads g n x y ≡ true → leads g (suc n) x y ≡ true
+leads_more : (g : List (List ℕ)) (n x y : ℕ) → leads_within g n x y ≡ true → leads_within g (suc n) x y ≡ true
 leads_more g zero x y e = absurd (false≢true e)
-leads_more g (suc n) x y e = any_more (λ z. nat_eq y z || leads g n z y) (λ z. nat_eq y z || leads g (suc n) z y) (targets g x) (λ z t. or_more (nat_eq y z) (leads g n z y) (leads g (suc n) z y) (leads_more g n z y) t) e
+leads_more g (suc n) x y e = any_more (λ z. nat_eq y z || leads_within g n z y) (λ z. nat_eq y z || leads_within g (suc n) z y) (leads_to g x) (λ z t. or_more (nat_eq y z) (leads_within g n z y) (leads_within g (suc n) z y) (leads_more g n z y) t) e
 
-leads_beyond : (g : List (List ℕ)) (k n x y : ℕ) → leads g n x y ≡ true → leads g (n + k) x y ≡ true
-leads_beyond g zero n x y e = let same : n ≡ n + 0 = omega arith in subst (λ j. leads g j x y ≡ true) same e
-leads_beyond g (suc k) n x y e = let same : suc (n + k) ≡ n + suc k = omega arith in subst (λ j. leads g j x y ≡ true) same (leads_more g (n + k) x y (leads_beyond g k n x y e))
+leads_beyond : (g : List (List ℕ)) (k n x y : ℕ) → leads_within g n x y ≡ true → leads_within g (n + k) x y ≡ true
+leads_beyond g zero n x y e = let same : n ≡ n + 0 = omega arith in subst (λ j. leads_within g j x y ≡ true) same e
+leads_beyond g (suc k) n x y e = let same : suc (n + k) ≡ n + suc k = omega arith in subst (λ j. leads_within g j x y ≡ true) same (leads_more g (n + k) x y (leads_beyond g k n x y e))
 
 -- ---- a trail on which no node stands twice
 
@@ -88,7 +88,7 @@ all_apart x (w ∷ ws) e = go (all_apart x ws) (nat_eq x w) refl e
     go more true is f = absurd (false≢true (sym f))
     go more false is f = (is, more f)
 
-with_first : (g : List (List ℕ)) (x z y : ℕ) → Contains (targets g x) z → Trail g z y → Trail g x y
+with_first : (g : List (List ℕ)) (x z y : ℕ) → Contains (leads_to g x) z → Trail g z y → Trail g x y
 unfolding IsDistinct
 with_first g x z y c (us, t, d) = go (list_any (nat_eq x) (z ∷ us)) refl
   where
@@ -103,8 +103,8 @@ trail_of g x y (Then {y = z} c rest) = with_first g x z y c (trail_of g z y rest
 
 -- ---- its nodes are nodes of the graph, so it is no longer than there are
 
-has_edge : (g : List (List ℕ)) (u v : ℕ) → Contains (targets g u) v → u < length g
-has_edge g u v (k, lt, e) = elim (cases_lt u (length g)) [ inl low ↦ low | inr high ↦ let none : targets g u ≡ [] = get_or_past g u [] high in let gone : k < 0 = subst (λ ts. k < length ts) none lt in absurd (omega arith) ]
+has_edge : (g : List (List ℕ)) (u v : ℕ) → Contains (leads_to g u) v → u < length g
+has_edge g u v (k, lt, e) = elim (cases_lt u (length g)) [ inl low ↦ low | inr high ↦ let none : leads_to g u ≡ [] = get_or_past g u [] high in let gone : k < 0 = subst (λ ts. k < length ts) none lt in absurd (omega arith) ]
 
 all_low : (g : List (List ℕ)) (u : ℕ) (us : List ℕ) (y : ℕ) → IsTrail g (u ∷ us) y → (q : ℕ) → list_any (nat_eq q) (u ∷ us) ≡ true → q < length g
 all_low g u [] y c q e = go (nat_eq q u) refl e
@@ -118,9 +118,9 @@ all_low g u (v ∷ vs) y (c, t) q e = go (all_low g v vs y t q) (nat_eq q u) ref
     go more true is f = subst (λ z. z < length g) (sym (eqb-true q u is)) (has_edge g u v c)
     go more false is f = more f
 
-pub leads_complete : (g : List (List ℕ)) (x y : ℕ) → Leads g x y → leads g (length g) x y ≡ true
+pub leads_complete : (g : List (List ℕ)) (x y : ℕ) → Leads g x y → leads_within g (length g) x y ≡ true
 leads_complete g x y h =
     let trail = trail_of g x y h in
     let short : length (x ∷ trail.0) ≤ length g = length-le_from_distinct_below (x ∷ trail.0) (length g) trail.2 (all_low g x trail.0 y trail.1) in
     let fits : suc (length trail.0) + (length g - suc (length trail.0)) ≡ length g = omega arith in
-    subst (λ j. leads g j x y ≡ true) fits (leads_beyond g (length g - suc (length trail.0)) (suc (length trail.0)) x y (trail_leads g x trail.0 y trail.1))
+    subst (λ j. leads_within g j x y ≡ true) fits (leads_beyond g (length g - suc (length trail.0)) (suc (length trail.0)) x y (trail_leads g x trail.0 y trail.1))

@@ -18,13 +18,13 @@ use Rattle.abc_verify_typing.specs.Effects.{Here}
 use Rattle.abc_verify_typing.specs.Routines.{Routine}
 use Rattle.abc_meaning.specs.Setting.{Setting, routine_of}
 use Rattle.abc_meaning.specs.World.{Errs, Faults, Fills, Outcome, Run, Sticks, Stop, Stopped, Throws, Went, World}
-use Rattle.abc_meaning.specs.At.{Above, Act, Doing, Goes, Returns, Stays, Top, waiting}
+use Rattle.abc_meaning.specs.At.{Above, Act, Doing, Goes, Returns, Stays, Top, waiting_frame}
 use Rattle.abc_meaning.specs.Table.{act_of}
 use Rattle.abc_meaning.specs.Meaning.{Ended, runs_for, then_runs}
-use Rattle.abc_meaning.specs.Step.{acted, does, does_instr, does_row, gives_back, put_on, puts, resumed, resumes, room_for_frame, runs, settles, size_of_frame, size_of_frames, started, step, step_of, tested}
+use Rattle.abc_meaning.specs.Step.{after_act, does, does_instr, does_row, gives_back, put_on, puts, after_resume, resumes, room_for_frame, runs, settles, size_of_frame, size_of_frames, after_start, step, step_of, or_stuck}
 use Rattle.abc_meaning.specs.Tests.{at_frame, can_run}
 use Rattle.abc_meaning.specs.Throwing.{Ends, Machine, Stepped, Steps, Stuck, catcher, caught_at, goes_on, has_stack, lands, last_script, stops, throws_made, unwinds}
-use Rattle.abc_meaning.specs.Front.{Changes, IsFront, Keeps, Starts, left_by}
+use Rattle.abc_meaning.specs.Front.{Changes, IsWorldFront, FrontKeeps, Starts, left_by}
 use Rattle.abc_meaning.specs.OutputLaws.{RunsAppend, StepsAppend, StepsChangeOnce}
 use Rattle.abc_meaning.proofs.Adding.{Once, Quiet, Starting, changes_first, done_quiet, front_of, front_on, keeps_on, keeps_self, once, room_quiet, same_front, starts_on, stop_quiet, then_quiet}
 use Rattle.abc_meaning.proofs.Entering.{new_of_host_quiet, starts_starting}
@@ -34,7 +34,7 @@ use Rattle.abc_meaning.proofs.Values.{new_quiet}
 -- ---- an instruction
 
 module _ (p : Setting) where
-  tested_once : (w : World) (b : Bool) (m : Run Act) → Once w (m w) → Once w (tested b m w)
+  tested_once : (w : World) (b : Bool) (m : Run Act) → Once w (m w) → Once w (or_stuck b m w)
   tested_once w true m a = a
   tested_once w false m a = once w _ (stop_quiet w Sticks)
 
@@ -57,15 +57,15 @@ module _ (p : Setting) where
   -- ---- what a step leaves
 
   record Leaves (w : World) (s : Stepped) : Type 0 where
-    kept : Keeps w (left_by s)
+    kept : FrontKeeps w (left_by s)
 
   record LeavesOnce (w : World) (s : Stepped) : Type 0 where
     one : Changes w (left_by s)
 
-  self : (w : World) → Keeps w w
+  self : (w : World) → FrontKeeps w w
   self w = keeps_self w
 
-  leaves_on : (u w : World) (s : Stepped) → Keeps u w → Leaves w s → Leaves u s
+  leaves_on : (u w : World) (s : Stepped) → FrontKeeps u w → Leaves w s → Leaves u s
   leaves_on u w s a b = record { kept = keeps_on u w (left_by s) a b.kept }
 
   once_on : (u w : World) (s : Stepped) → Changes u w → Leaves w s → LeavesOnce u s
@@ -120,20 +120,20 @@ module _ (p : Setting) where
   resumes_quiet w f (waits.New n) v = then_quiet w _ _ (new_quiet p w v (reverse (take n f.stack))) (λ i c. done_quiet i _)
   resumes_quiet w f waits.Not v = stop_quiet w Sticks
 
-  resumed_leave : (u : World) (f : Frame) (fs : List Frame) (o : Outcome Top) → Quiet u o → Leaves u (resumed p f fs o)
+  resumed_leave : (u : World) (f : Frame) (fs : List Frame) (o : Outcome Top) → Quiet u o → Leaves u (after_resume p f fs o)
   resumed_leave u f fs (Went w top) a = leaves_on u w (settles p w fs top) a.kept (settles_leave w fs top)
   resumed_leave u f fs (Stopped w why) a = leaves_on u w (stops p w (f ∷ fs) why) a.kept (stops_leave w (f ∷ fs) why)
 
   gives_back_leave : (w : World) (v : Value) (fs : List Frame) → Leaves w (gives_back p w v fs)
   gives_back_leave w v [] = record { kept = self w }
-  gives_back_leave w v (f ∷ fs) = resumed_leave w f fs (resumes p (waiting waits.Not f) f.wait v w) (resumes_quiet w (waiting waits.Not f) f.wait v)
+  gives_back_leave w v (f ∷ fs) = resumed_leave w f fs (resumes p (waiting_frame waits.Not f) f.wait v w) (resumes_quiet w (waiting_frame waits.Not f) f.wait v)
 
-  acted_once : (u : World) (f : Frame) (fs : List Frame) (o : Outcome Act) → Once u o → LeavesOnce u (acted p f fs o)
+  acted_once : (u : World) (f : Frame) (fs : List Frame) (o : Outcome Act) → Once u o → LeavesOnce u (after_act p f fs o)
   acted_once u f fs (Went w (Goes top)) a = once_on u w (settles p w fs top) a.one (settles_leave w fs top)
   acted_once u f fs (Went w (Returns v)) a = once_on u w (gives_back p w v fs) a.one (gives_back_leave w v fs)
   acted_once u f fs (Stopped w why) a = once_on u w (stops p w (f ∷ fs) why) a.one (stops_leave w (f ∷ fs) why)
 
-  started_starts : (u : World) (o : Outcome Frame) → Starting u o → Starts u (left_by (started p o))
+  started_starts : (u : World) (o : Outcome Frame) → Starting u o → Starts u (left_by (after_start p o))
   started_starts u (Went w f) a = starts_on u w (left_by (puts p w f [])) a.starts (puts_leave w f []).kept
   started_starts u (Stopped w why) a = starts_on u w (left_by (stops p w [] why)) a.starts (stops_leave w [] why).kept
 
@@ -153,7 +153,7 @@ steps_append p q = front_of q.world (left_by (step p q)) (steps_change p q)
 
 -- ---- runs
 
-then_append : (u : World) (s : Stepped) (go : Machine → Ended) → IsFront u (left_by s) → ((q : Machine) → IsFront q.world (go q).world) → IsFront u (then_runs s go).world
+then_append : (u : World) (s : Stepped) (go : Machine → Ended) → IsWorldFront u (left_by s) → ((q : Machine) → IsWorldFront q.world (go q).world) → IsWorldFront u (then_runs s go).world
 then_append u (Steps q) go a g = front_on u q.world (go q).world a (g q)
 then_append u (Ends w e) go a g = a
 

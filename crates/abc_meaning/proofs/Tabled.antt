@@ -7,10 +7,10 @@ use Rattle.abc_heap_values.specs.declared.numbers.Conversion.TheVariants.{Conver
 use Rattle.abc_heap_values.specs.declared.numbers.Conversion.{Conversion}
 use Rattle.abc_verify_typing.specs.Lists.{Each}
 use Rattle.abc_meaning.specs.World.{Faults, Throws, World}
-use Rattle.abc_meaning.specs.At.{At, Doing, nothing, opcode_at}
+use Rattle.abc_meaning.specs.At.{ActCase, Doing, does_nothing, opcode_at}
 use Rattle.abc_meaning.specs.Simple.{converting, where_not, where_so}
 use Rattle.abc_meaning.specs.Table.{act_of, acts, call_acts, class_acts, find_act, jumping_acts, object_acts, operation_acts, plain_acts, walking_acts}
-use Rattle.abc_meaning.specs.Walking.{position, walked}
+use Rattle.abc_meaning.specs.Walking.{position, object_of}
 use Rattle.abc_meaning.proofs.Acting.{activation_quiet, and_reads_once, array_quiet, calls_super_once, came_once, came_quiet, catch_quiet, class_quiet, coerces_operand_quiet, constructs_quiet, counts_quiet, drops_once, drops_quiet, flag_quiet, function_quiet, gives_quiet, has_name_quiet, has_next2_quiet, instance_quiet, late_quiet, local_quiet, makes_of_quiet, name_quiet, name_in_quiet, object_quiet, or_global_once, reads_slot_quiet, reads_super_quiet, returns_quiet, scope_object_quiet, scoped_quiet, strictly_once, switches_quiet, take_one_once, take_one_quiet, take_two_once, take_two_quiet, type_quiet, writes_slot_quiet, writes_super_quiet}
 use Rattle.abc_meaning.proofs.Adding.{Once, Quiet, done_quiet, once, stop_quiet, then_once, then_quiet}
 use Rattle.abc_meaning.proofs.Entering.{compares_quiet, converts_quiet, one_quiet, two_quiet}
@@ -18,7 +18,7 @@ use Rattle.abc_meaning.proofs.Members.{calls_name_once, deletes_quiet, reads_qui
 use Rattle.abc_meaning.proofs.Values.{calls_once, new_quiet}
 
 pub record ActOnce (d : Doing) : Type 0 where
-  pub is : (w : World) (a : At) → Once w (d a w)
+  pub is : (w : World) (a : ActCase) → Once w (d a w)
 
 abbrev EntryOnce : ℕ × Doing → Type 0
 EntryOnce e = ActOnce e.1
@@ -28,26 +28,26 @@ AllOnce ds = Each EntryOnce ds
 
 -- ---- acts of one shape
 
-nothing_quiet : (w : World) (a : At) → Quiet w (nothing a w)
+nothing_quiet : (w : World) (a : ActCase) → Quiet w (does_nothing a w)
 nothing_quiet w a = done_quiet w _
 
-so_quiet : (comparison : ℕ) (w : World) (a : At) → Quiet w (where_so comparison a w)
+so_quiet : (comparison : ℕ) (w : World) (a : ActCase) → Quiet w (where_so comparison a w)
 so_quiet comparison w a = then_quiet w _ _ (take_two_quiet w a.values _ (λ x y. compares_quiet a.setting w comparison x y)) (λ n b. done_quiet n _)
 
-not_quiet : (comparison : ℕ) (w : World) (a : At) → Quiet w (where_not comparison a w)
+not_quiet : (comparison : ℕ) (w : World) (a : ActCase) → Quiet w (where_not comparison a w)
 not_quiet comparison w a = then_quiet w _ _ (then_quiet w _ _ (take_two_quiet w a.values _ (λ x y. compares_quiet a.setting w comparison x y)) (λ n b. done_quiet n _)) (λ n b. done_quiet n _)
 
-converting_quiet : (to : Conversion) (w : World) (a : At) → Quiet w (converting to a w)
+converting_quiet : (to : Conversion) (w : World) (a : ActCase) → Quiet w (converting to a w)
 converting_quiet to w a = gives_quiet w a _ (take_one_quiet w a.values _ (λ v. converts_quiet a.setting w to v))
 
 -- ---- the groups of the table
 
 -- an act, and those behind it
-also : {d : Doing} {R : Type 0} → ((w : World) (a : At) → Quiet w (d a w)) → R → ActOnce d × R
+also : {d : Doing} {R : Type 0} → ((w : World) (a : ActCase) → Quiet w (d a w)) → R → ActOnce d × R
 also f more = (record { is = λ w a. once w _ (f w a) }, more)
 
 -- one that may write, or start a script
-also_once : {d : Doing} {R : Type 0} → ((w : World) (a : At) → Once w (d a w)) → R → ActOnce d × R
+also_once : {d : Doing} {R : Type 0} → ((w : World) (a : ActCase) → Once w (d a w)) → R → ActOnce d × R
 also_once f more = (record { is = f }, more)
 
 jumping_once : (rest : List (ℕ × Doing)) → AllOnce rest → AllOnce (jumping_acts rest)
@@ -167,7 +167,7 @@ operation_once rest more =
 
 walking_once : (rest : List (ℕ × Doing)) → AllOnce rest → AllOnce (walking_acts rest)
 walking_once rest more =
-    also (λ w a. gives_quiet w a _ (take_two_quiet w a.values _ (λ o i. name_in_quiet w (walked o w) (position i))))
+    also (λ w a. gives_quiet w a _ (take_two_quiet w a.values _ (λ o i. name_in_quiet w (object_of o w) (position i))))
     (also (λ w a. gives_quiet w a _ (take_two_quiet w a.values _ (λ o i. done_quiet w _)))
     (also (λ w a. gives_quiet w a _ (take_two_quiet w a.values _ (λ o i. done_quiet w _)))
     (also has_next2_quiet

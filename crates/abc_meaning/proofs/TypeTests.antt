@@ -19,7 +19,7 @@ use Rattle.abc_link_names.specs.declared.types.Ty.TheVariants as types
 use Rattle.abc_link_names.specs.Bases.{is_interface}
 use Rattle.abc_verify_typing.proofs.Reaching.{below_reached, reached}
 use Rattle.abc_meaning.specs.TypeLaws.{DecidesTypes}
-use Rattle.abc_meaning.specs.Types.{is_instance_of, is_int, is_object_of, is_of, is_uint, leads, names_interface}
+use Rattle.abc_meaning.specs.Types.{is_instance_of, is_int, is_object_of, is_of_type, is_uint, leads_within, names_interface}
 use Rattle.abc_meaning.proofs.Reaching.{leads_complete, leads_sound}
 
 -- ---- numbers
@@ -106,7 +106,7 @@ graph_length : (l : LinkedFile) → length (class_graph l.file) ≡ length l.fil
 graph_length l = length-map _ _
 
 part_sound : (l : LinkedFile) (k : ℕ) (part : Part) → names_interface l k part ≡ true → NamesInterface l k part
-part_sound l k (parts.Instance c) e = let h = both (is_interface l.file k) (leads (class_graph l.file) (length l.file.instances) c k) e in (h.0, leads_sound (class_graph l.file) (length l.file.instances) c k h.1)
+part_sound l k (parts.Instance c) e = let h = both (is_interface l.file k) (leads_within (class_graph l.file) (length l.file.instances) c k) e in (h.0, leads_sound (class_graph l.file) (length l.file.instances) c k h.1)
 part_sound l k (parts.Host h) e = false≢true e
 part_sound l k (parts.ClassObject c) e = false≢true e
 part_sound l k (parts.HostClassObject h) e = false≢true e
@@ -115,7 +115,7 @@ part_sound l k (parts.Activation b) e = false≢true e
 part_sound l k (parts.Catch b c) e = false≢true e
 
 part_complete : (l : LinkedFile) (k : ℕ) (part : Part) → NamesInterface l k part → names_interface l k part ≡ true
-part_complete l k (parts.Instance c) h = and_true (is_interface l.file k) (leads (class_graph l.file) (length l.file.instances) c k) h.0 (subst (λ n. leads (class_graph l.file) n c k ≡ true) (graph_length l) (leads_complete (class_graph l.file) c k h.1))
+part_complete l k (parts.Instance c) h = and_true (is_interface l.file k) (leads_within (class_graph l.file) (length l.file.instances) c k) h.0 (subst (λ n. leads_within (class_graph l.file) n c k ≡ true) (graph_length l) (leads_complete (class_graph l.file) c k h.1))
 part_complete l k (parts.Host c) h = absurd h
 part_complete l k (parts.ClassObject c) h = absurd h
 part_complete l k (parts.HostClassObject c) h = absurd h
@@ -143,7 +143,7 @@ instance_complete l h k (values.Space n) b = absurd b
 
 -- ---- all types
 
-sound : (l : LinkedFile) (h : Heap) (t : Ty) (v : Value) → is_of l h t v ≡ true → IsOf l h t v
+sound : (l : LinkedFile) (h : Heap) (t : Ty) (v : Value) → is_of_type l h t v ≡ true → IsOf l h t v
 sound l h types.Any v e = tt
 sound l h types.Int v e = int_sound v e
 sound l h types.UInt v e = uint_sound v e
@@ -192,7 +192,7 @@ sound l h types.Space (values.Text s) e = false≢true e
 sound l h types.Space (values.Space n) e = tt
 sound l h types.Space (values.Obj o) e = false≢true e
 
-complete : (l : LinkedFile) (h : Heap) (t : Ty) (v : Value) → IsLinkedFile l → IsOf l h t v → is_of l h t v ≡ true
+complete : (l : LinkedFile) (h : Heap) (t : Ty) (v : Value) → IsLinkedFile l → IsOf l h t v → is_of_type l h t v ≡ true
 complete l h types.Any v f b = refl
 complete l h types.Int v f b = int_complete v b
 complete l h types.UInt v f b = uint_complete v b

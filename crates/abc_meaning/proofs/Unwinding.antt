@@ -15,10 +15,10 @@ use Rattle.abc_link_names.specs.declared.part.Part.TheVariants as parts
 use Rattle.abc_link_names.specs.declared.types.Ty.{Ty}
 use Rattle.abc_link_names.specs.PartsByNumber.{body_at}
 use Rattle.abc_file_types.specs.declared.code.Handler.{Handler}
-use Rattle.abc_verify_typing.specs.Effects.{caught, covering, covers}
+use Rattle.abc_verify_typing.specs.Effects.{caught_state, covering, covers}
 use Rattle.abc_verify_typing.specs.Lists.{Each, Each2}
-use Rattle.abc_verify_typing.specs.Routines.{Routine, catches as catches_from, kind_if, or_any, routine, type_at}
-use Rattle.abc_verify_typing.specs.Rules.{is_empty}
+use Rattle.abc_verify_typing.specs.Routines.{Routine, catches_from, kind_if, or_any, routine, type_at}
+use Rattle.abc_verify_typing.specs.Rules.{is_without_catches}
 use Rattle.abc_verify_typing.specs.Typing.{In, ScopeLe}
 use Rattle.abc_verify_typing.specs.declared.catch.Catch.{Catch}
 use Rattle.abc_verify_typing.specs.declared.rule.VerifyRule.TheVariants.{StackOver}
@@ -29,7 +29,7 @@ use Rattle.abc_frames.specs.Frame.{Frame}
 use Rattle.abc_meaning.specs.Setting.{Setting, routine_in, routine_of}
 use Rattle.abc_meaning.specs.World.{World}
 use Rattle.abc_meaning.specs.ThrowLaws.{ThrowsStaySound}
-use Rattle.abc_meaning.specs.Sound.{AreTypings, FrameSound, FramesFit, FramesSound, IsCatching, IsOfKind, ScopeHolds, SteppedSound, Stands, Typings, WaitingSound, WorldSound}
+use Rattle.abc_meaning.specs.Sound.{AreTypings, FrameSound, FramesFit, FramesSound, IsCatching, IsOfKind, ScopeHolds, SteppedSound, FrameStands, Typings, WaitingSound, WorldSound}
 use Rattle.abc_meaning.specs.Throwing.{Ends, Stuck, catcher, catches, caught_at, goes_on, handlers_in, has_stack, is_caught_as, lands, unwinds}
 use Rattle.abc_meaning.proofs.ValueKinds.{kinds_up, type_holds}
 
@@ -72,7 +72,7 @@ catch_in p (Some b) r test h e f = let same : routine p.linked b ≡ r = cc in s
 
 -- ---- where it lands
 
-some_handler : (c : Catch) (hs : List Catch) (b : Bool) → In c hs → (b || is_empty hs) ≡ true → b ≡ true
+some_handler : (c : Catch) (hs : List Catch) (b : Bool) → In c hs → (b || is_without_catches hs) ≡ true → b ≡ true
 some_handler c hs true h e = refl
 some_handler c [] false h e = absurd h
 some_handler c (x ∷ hs) false h e = absurd cc
@@ -86,7 +86,7 @@ caught_kind p w v f x None e = absurd (false≢true e)
 caught_kind p w v f x (Some t) e = record { exists = x; kind = type_holds p.linked w.heap t v f x e }
 
 pub record CanCatch (p : Setting) (typings : Typings) (h : Heap) (f : Frame) : Type 0 where
-  pub stands : Stands p h f
+  pub stands : FrameStands p h f
   pub catching : IsCatching p typings h f
 
 abbrev Landing : Setting → Typings → World → Value → Frame → Handler → Type 0
@@ -105,7 +105,7 @@ landed p typings w v f h file typed x k found =
     let covered : covers f.place c ≡ true = ap (λ a. nat_le a f.place && nat_lt f.place c.to) is.from ∙ ap (λ b. nat_le h.from f.place && nat_lt f.place b) is.to ∙ range in
     let inside = in_filter (covers f.place) c r.handlers has.1 covered in
     let typing = typed f.method r k.stands.body in
-    let follow = typing.follows f.place s c.target (caught s c).1 k.catching.typed (in_right (caught s c) _ _ (map_in (caught s) c (covering r f.place) inside)) in
+    let follow = typing.follows f.place s c.target (caught_state s c).1 k.catching.typed (in_right (caught_state s c) _ _ (map_in (caught_state s) c (covering r f.place) inside)) in
     let at = stands p.linked r f.place s (typing.fine f.place s k.catching.typed) in
     let some : nat_lt 0 r.max_stack ≡ true = some_handler c (covering r f.place) (nat_lt 0 r.max_stack) inside (and_right _ _ (at.kept StackOver)) in
     let room = ltb-true 0 r.max_stack some in

@@ -5,7 +5,7 @@ use Rattle.abc_base.specs.declared.names.HostClass.TheVariants as hosts
 use Rattle.abc_heap_values.specs.declared.values.Value.{Value}
 use Rattle.abc_heap_values.specs.declared.values.Value.TheVariants as values
 use Rattle.abc_heap_store.specs.Heap.{Heap, object_at}
-use Rattle.abc_objects.specs.Values.{Exists, Holds}
+use Rattle.abc_objects.specs.Values.{Exists, IsValueOf}
 use Rattle.abc_link_names.specs.Kinds.{IsAtMost}
 use Rattle.abc_link_names.specs.Linked.{IsLinkedFile, LinkedFile, above, layout_of}
 use Rattle.abc_link_names.specs.Tree.{IsBelow}
@@ -20,12 +20,12 @@ use Rattle.abc_link_names.proofs.Tree.{above_le, below_trans, below_up}
 use Rattle.abc_verify_typing.specs.Lists.{Each2}
 use Rattle.abc_verify_typing.proofs.Good.{good}
 use Rattle.abc_verify_typing.proofs.Reaching.{below_reached}
-use Rattle.abc_meaning.specs.Types.{is_of}
+use Rattle.abc_meaning.specs.Types.{is_of_type}
 use Rattle.abc_meaning.specs.Sound.{IsOfKind}
 
 -- ---- a value of a kind is of the kinds above it
 
-only_null : (l : LinkedFile) (h : Heap) (v : Value) → Holds l h kinds.Null v → v ≡ values.Null
+only_null : (l : LinkedFile) (h : Heap) (v : Value) → IsValueOf l h kinds.Null v → v ≡ values.Null
 only_null l h values.Null b = refl
 only_null l h values.Undefined b = absurd b
 only_null l h (values.Num n) b = absurd b
@@ -34,7 +34,7 @@ only_null l h (values.Text s) b = absurd b
 only_null l h (values.Space n) b = absurd b
 only_null l h (values.Obj o) b = absurd b
 
-object_up : (l : LinkedFile) (h : Heap) (x y : LayoutId) (v : Value) → IsBelow l x.0 y.0 → Holds l h (kinds.Obj x) v → Holds l h (kinds.Obj y) v
+object_up : (l : LinkedFile) (h : Heap) (x y : LayoutId) (v : Value) → IsBelow l x.0 y.0 → IsValueOf l h (kinds.Obj x) v → IsValueOf l h (kinds.Obj y) v
 object_up l h x y values.Null a b = tt
 object_up l h x y (values.Obj o) a b = (b.0, below_trans l (object_at h.objects o.0).layout x.0 y.0 b.1 a)
 object_up l h x y values.Undefined a b = absurd b
@@ -43,7 +43,7 @@ object_up l h x y (values.Bool c) a b = absurd b
 object_up l h x y (values.Text s) a b = absurd b
 object_up l h x y (values.Space n) a b = absurd b
 
-holds_up : (l : LinkedFile) (h : Heap) (k m : Kind) (v : Value) → IsAtMost l k m → Holds l h k v → Holds l h m v
+holds_up : (l : LinkedFile) (h : Heap) (k m : Kind) (v : Value) → IsAtMost l k m → IsValueOf l h k v → IsValueOf l h m v
 holds_up l h k kinds.Any v a b = tt
 holds_up l h kinds.Undef kinds.Undef v a b = b
 holds_up l h kinds.Null kinds.Null v a b = b
@@ -51,9 +51,9 @@ holds_up l h kinds.Num kinds.Num v a b = b
 holds_up l h kinds.Bool kinds.Bool v a b = b
 holds_up l h kinds.Text kinds.Text v a b = b
 holds_up l h kinds.Space kinds.Space v a b = b
-holds_up l h kinds.Null kinds.Text v a b = subst (λ w. Holds l h kinds.Text w) (sym (only_null l h v b)) tt
-holds_up l h kinds.Null kinds.Space v a b = subst (λ w. Holds l h kinds.Space w) (sym (only_null l h v b)) tt
-holds_up l h kinds.Null (kinds.Obj y) v a b = subst (λ w. Holds l h (kinds.Obj y) w) (sym (only_null l h v b)) tt
+holds_up l h kinds.Null kinds.Text v a b = subst (λ w. IsValueOf l h kinds.Text w) (sym (only_null l h v b)) tt
+holds_up l h kinds.Null kinds.Space v a b = subst (λ w. IsValueOf l h kinds.Space w) (sym (only_null l h v b)) tt
+holds_up l h kinds.Null (kinds.Obj y) v a b = subst (λ w. IsValueOf l h (kinds.Obj y) w) (sym (only_null l h v b)) tt
 holds_up l h (kinds.Obj x) (kinds.Obj y) v a b = object_up l h x y v a b
 holds_up l h k m v a b = absurd a
 
@@ -79,7 +79,7 @@ pub below_object : (l : LinkedFile) → IsLinkedFile l → (x : ℕ) → IsBelow
 below_object l f x = let g = good l f in let low : x ≤ x = omega arith in subst (λ y. IsBelow l x y) (sym g.root) (below_first l f x x low)
 
 -- the test of each type fails at values of other sorts
-pub type_holds : (l : LinkedFile) (h : Heap) (t : Ty) (v : Value) → IsLinkedFile l → Exists l h v → is_of l h t v ≡ true → Holds l h (kind_of_type l t) v
+pub type_holds : (l : LinkedFile) (h : Heap) (t : Ty) (v : Value) → IsLinkedFile l → Exists l h v → is_of_type l h t v ≡ true → IsValueOf l h (kind_of_type l t) v
 type_holds l h types.Any v f x e = tt
 type_holds l h types.Object v f x e = tt
 type_holds l h types.Void values.Undefined f x e = tt

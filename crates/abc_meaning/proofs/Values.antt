@@ -19,12 +19,12 @@ use Rattle.abc_link_names.specs.Bases.{is_interface}
 use Rattle.abc_objects.specs.Fixed.{fixed_span}
 use Rattle.abc_objects.specs.declared.fixed.FixedText.TheVariants.{Message}
 use Rattle.abc_link_names.specs.declared.types.Ty.{Ty}
-use Rattle.abc_meaning.specs.Calling.{Came, Got, calls, calls_formula, calls_what, got, in_range, line, number_in, only, this_of, trace}
+use Rattle.abc_meaning.specs.Calling.{Came, Got, calls, calls_formula, calls_what, got, number_in_range, trace_line, number_of_argument, only_argument, this_of, trace}
 use Rattle.abc_meaning.specs.Making.{host_arguments, message_of, most_arguments, new, new_elements, new_instance, new_of_class, new_plain, new_what, set_message}
 use Rattle.abc_meaning.specs.Objects.{place}
 use Rattle.abc_meaning.specs.Ops.{as_boolean, as_int, as_number, as_text, as_uint, coerces}
 use Rattle.abc_meaning.specs.Setting.{Setting, type_of_class, type_of_host}
-use Rattle.abc_meaning.specs.World.{Errs, Faults, Run, Went, World, and_then, object, throws}
+use Rattle.abc_meaning.specs.World.{Errs, Faults, Run, Went, World, and_then, object_named, throws}
 use Rattle.abc_meaning.proofs.Adding.{Once, Quiet, done_quiet, each_quiet, if_quiet, once, some_quiet, stop_quiet, then_once, then_quiet}
 use Rattle.abc_meaning.proofs.Entering.{arguments_quiet, coerces_quiet, converts_quiet, enters_quiet, framed_quiet, new_array_quiet, new_object_quiet, set_property_quiet}
 
@@ -32,7 +32,7 @@ wrote_once : {X : Type 0} (w : World) (bytes : List ℕ) (x : X) → Once w (Wen
 wrote_once w bytes x = record { one = inl (record { more = bytes; is = refl; started = refl }) }
 
 module _ (p : Setting) where
-  only_quiet : (w : World) (args : List Value) (f : Value → Run Came) → ((v : Value) → Quiet w (f v w)) → Quiet w (only args f w)
+  only_quiet : (w : World) (args : List Value) (f : Value → Run Came) → ((v : Value) → Quiet w (f v w)) → Quiet w (only_argument args f w)
   only_quiet w [] f g = stop_quiet w (Errs hosts.ArgumentError)
   only_quiet w (v ∷ []) f g = g v
   only_quiet w (v ∷ u ∷ vs) f g = stop_quiet w (Errs hosts.ArgumentError)
@@ -40,14 +40,14 @@ module _ (p : Setting) where
   -- ---- calls
 
   trace_once : (w : World) (args : List Value) → Once w (trace p args w)
-  trace_once w args = then_once w _ _ (each_quiet (as_text p) (λ n v. converts_quiet p n ConvertS v) w args) (λ n texts. wrote_once n (line p texts n) (Got values.Undefined))
+  trace_once w args = then_once w _ _ (each_quiet (as_text p) (λ n v. converts_quiet p n ConvertS v) w args) (λ n texts. wrote_once n (trace_line p texts n) (Got values.Undefined))
 
-  range_quiet : (w : World) (n : Option ℤ) → Quiet w (in_range n w)
+  range_quiet : (w : World) (n : Option ℤ) → Quiet w (number_in_range n w)
   range_quiet w None = stop_quiet w (Faults faults.Range)
   range_quiet w (Some n) = done_quiet w _
 
   formula_quiet : (w : World) (f : Formula) (args : List Value) → Quiet w (calls_formula p f args w)
-  formula_quiet w f args = if_quiet w (nat_eq (length args) (length f.factors)) _ _ (then_quiet w _ _ (each_quiet (as_number p) (λ n v. converts_quiet p n ConvertD v) w args) (λ n vs. range_quiet n (number_or_none (value_of f (map number_in vs))))) (stop_quiet w (Errs hosts.ArgumentError))
+  formula_quiet w f args = if_quiet w (nat_eq (length args) (length f.factors)) _ _ (then_quiet w _ _ (each_quiet (as_number p) (λ n v. converts_quiet p n ConvertD v) w args) (λ n vs. range_quiet n (number_or_none (value_of f (map number_of_argument vs))))) (stop_quiet w (Errs hosts.ArgumentError))
 
   coerced_quiet : (w : World) (t : Ty) (v : Value) → Quiet w (and_then (coerces p t v w) got)
   coerced_quiet w t v = then_quiet w _ _ (coerces_quiet p w t v) (λ n x. done_quiet n _)
@@ -66,7 +66,7 @@ module _ (p : Setting) where
   what_once w whats.Array receiver args = once w _ (stop_quiet w (Errs hosts.TypeError))
 
   pub calls_once : (w : World) (f receiver : Value) (args : List Value) → Once w (calls p f receiver args w)
-  calls_once w (values.Obj o) receiver args = then_once w _ _ (some_quiet w (object o w)) (λ (n : World) (ob : Object). what_once n ob.what receiver args)
+  calls_once w (values.Obj o) receiver args = then_once w _ _ (some_quiet w (object_named o w)) (λ (n : World) (ob : Object). what_once n ob.what receiver args)
   calls_once w values.Undefined receiver args = once w _ (stop_quiet w (Errs hosts.TypeError))
   calls_once w values.Null receiver args = once w _ (stop_quiet w (Errs hosts.TypeError))
   calls_once w (values.Num n) receiver args = once w _ (stop_quiet w (Errs hosts.TypeError))
@@ -149,7 +149,7 @@ module _ (p : Setting) where
   new_what_quiet w o whats.Array args = stop_quiet w (Errs hosts.TypeError)
 
   pub new_quiet : (w : World) (v : Value) (args : List Value) → Quiet w (new p v args w)
-  new_quiet w (values.Obj o) args = then_quiet w _ _ (some_quiet w (object o w)) (λ (n : World) (ob : Object). new_what_quiet n o ob.what args)
+  new_quiet w (values.Obj o) args = then_quiet w _ _ (some_quiet w (object_named o w)) (λ (n : World) (ob : Object). new_what_quiet n o ob.what args)
   new_quiet w values.Undefined args = stop_quiet w (Errs hosts.TypeError)
   new_quiet w values.Null args = stop_quiet w (Errs hosts.TypeError)
   new_quiet w (values.Num n) args = stop_quiet w (Errs hosts.TypeError)

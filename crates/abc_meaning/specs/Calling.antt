@@ -16,7 +16,7 @@ use Rattle.abc_frames.specs.Frame.{Frame}
 use Rattle.abc_meaning.specs.Objects.{place}
 use Rattle.abc_meaning.specs.Ops.{coerces, as_number, as_text}
 use Rattle.abc_meaning.specs.Setting.{Setting, type_of_class, type_of_host}
-use Rattle.abc_meaning.specs.World.{Run, World, done, fails, throws, writes, ◌>>=◌, ◌>>◌, some, the, see, each_of, object}
+use Rattle.abc_meaning.specs.World.{Run, World, pure, fails, throws, writes, ◌>>=◌, ◌>>◌, some, the, see, each_of, object_named}
 
 -- what a read, a call or a new comes to: a value, a method that is entered, or one with the object that it makes
 pub data Came : Type 0 where
@@ -25,10 +25,10 @@ pub data Came : Type 0 where
   Makes : Frame → Value → Came
 
 abbrev pub got : Value → Run Came
-got v = done (Got v)
+got v = pure (Got v)
 
-abbrev pub entered : Frame → Run Came
-entered f = done (Calls f)
+abbrev pub calls_frame : Frame → Run Came
+calls_frame f = pure (Calls f)
 
 -- ---- functions: one that is bound ignores the receiver; to another that is null or undefined it is its script's global object
 
@@ -40,52 +40,52 @@ this_of None home receiver w = receiver
 
 -- ---- class objects: exactly one argument, which is coerced to the class's type
 
-abbrev pub only : List Value → (Value → Run Came) → Run Came
-only (v ∷ []) f = f v
-only vs f = throws hosts.ArgumentError
+abbrev pub only_argument : List Value → (Value → Run Came) → Run Came
+only_argument (v ∷ []) f = f v
+only_argument vs f = throws hosts.ArgumentError
 
 -- ---- trace: all texts are made before the first byte is written
 
-abbrev pub bytes_of : Setting → World → Value → List ℕ
-bytes_of p w (Text t) = text_of p.linked.file.strings w.heap t
-bytes_of p w other = []
+abbrev pub trace_bytes : Setting → World → Value → List ℕ
+trace_bytes p w (Text t) = text_of p.linked.file.strings w.heap t
+trace_bytes p w other = []
 
 -- one space between the texts, and a line feed
-abbrev pub line : Setting → List Value → World → List ℕ
-line p [] w = 10 ∷ []
-line p (t ∷ []) w = bytes_of p w t ++ 10 ∷ []
-line p (t ∷ u ∷ ts) w = bytes_of p w t ++ 32 ∷ line p (u ∷ ts) w
+abbrev pub trace_line : Setting → List Value → World → List ℕ
+trace_line p [] w = 10 ∷ []
+trace_line p (t ∷ []) w = trace_bytes p w t ++ 10 ∷ []
+trace_line p (t ∷ u ∷ ts) w = trace_bytes p w t ++ 32 ∷ trace_line p (u ∷ ts) w
 
 abbrev pub trace : Setting → List Value → Run Came
 trace p args = do
   texts ← each_of (as_text p) args
-  bytes ← see (line p texts)
+  bytes ← see (trace_line p texts)
   writes bytes
   got Undefined
 
 -- ---- formulas: as many arguments as factors, each made a number
 
-abbrev pub number_in : Value → ℤ
-number_in (Num n) = n
-number_in other = pos 0
+abbrev pub number_of_argument : Value → ℤ
+number_of_argument (Num n) = n
+number_of_argument other = pos 0
 
-abbrev pub in_range : Option ℤ → Run Came
-in_range None = fails faults.Range
-in_range (Some n) = got (Num n)
+abbrev pub number_in_range : Option ℤ → Run Came
+number_in_range None = fails faults.Range
+number_in_range (Some n) = got (Num n)
 
 abbrev pub calls_formula : Setting → Formula → List Value → Run Came
-calls_formula p f args = if nat_eq (length args) (length f.factors) then (each_of (as_number p) args >>= λ vs. in_range (number_or_none (value_of f (map number_in vs)))) else throws hosts.ArgumentError
+calls_formula p f args = if nat_eq (length args) (length f.factors) then (each_of (as_number p) args >>= λ vs. number_in_range (number_or_none (value_of f (map number_of_argument vs)))) else throws hosts.ArgumentError
 
 -- ---- any value
 
 abbrev pub calls_what : Setting → What → Value → List Value → Run Came
-calls_what p (whats.Closure method home scope bound) receiver args = see (this_of bound home receiver) >>= λ this. enters p method this (place home scope) args >>= entered
-calls_what p (whats.ClassObject k home statics instances) receiver args = only args (λ v. coerces p (type_of_class p k) v >>= got)
-calls_what p (whats.HostClass c) receiver args = only args (λ v. coerces p (type_of_host p c) v >>= got)
+calls_what p (whats.Closure method home scope bound) receiver args = see (this_of bound home receiver) >>= λ this. enters p method this (place home scope) args >>= calls_frame
+calls_what p (whats.ClassObject k home statics instances) receiver args = only_argument args (λ v. coerces p (type_of_class p k) v >>= got)
+calls_what p (whats.HostClass c) receiver args = only_argument args (λ v. coerces p (type_of_host p c) v >>= got)
 calls_what p whats.Trace receiver args = trace p args
 calls_what p (whats.Formula n) receiver args = some (slice_get p.formulas n) >>= λ f. calls_formula p f args
 calls_what p other receiver args = throws hosts.TypeError
 
 abbrev pub calls : Setting → Value → Value → List Value → Run Came
-calls p (Obj o) receiver args = the (object o) >>= λ ob. calls_what p ob.what receiver args
+calls p (Obj o) receiver args = the (object_named o) >>= λ ob. calls_what p ob.what receiver args
 calls p v receiver args = throws hosts.TypeError

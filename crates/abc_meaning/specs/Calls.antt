@@ -54,9 +54,9 @@ value_returned (Went w (Returns v)) = v
 value_returned other = Undefined
 
 -- the value that the newest frame's instruction returns, where it does; else undefined
-abbrev pub returned : Setting → World → List Frame → Value
-returned p w [] = Undefined
-returned p w (f ∷ fs) = value_returned (runs p f (routine_of p f.method) w)
+abbrev pub value_at_end : Setting → World → List Frame → Value
+value_at_end p w [] = Undefined
+value_at_end p w (f ∷ fs) = value_returned (runs p f (routine_of p f.method) w)
 
 -- the run would be done where the last frame returns
 abbrev pub then_replies : Value → Stepped → (Machine → Replied) → Replied
@@ -66,7 +66,7 @@ then_replies v (Ends w e) go = replies w (EndsAs e)
 
 abbrev pub replies_for : Setting → (fuel : ℕ) → Machine → Replied
 replies_for p zero q = replies q.world (EndsAs FuelSpent)
-replies_for p (suc fuel) q = then_replies (returned p q.world q.frames) (step p q) (replies_for p fuel)
+replies_for p (suc fuel) q = then_replies (value_at_end p q.world q.frames) (step p q) (replies_for p fuel)
 
 -- ---- the meaning of a call, from a world that is kept: its output is what is written in it
 

@@ -146,8 +146,8 @@ ifeq t = Branch op.IFEQ t
 
 -- ---- files: namespace 1 is public and 2 private, set 1 is that of the public one
 
-abbrev pub file_of : List (List ℕ) → List Multiname → List Method → List Script → List Body → Abc
-file_of strings ns ms ss bs = record {
+abbrev pub example_file : List (List ℕ) → List Multiname → List Method → List Script → List Body → Abc
+example_file strings ns ms ss bs = record {
   ints = [];
   uints = [];
   doubles = [];
@@ -167,26 +167,26 @@ file_of strings ns ms ss bs = record {
 abbrev pub public : ℕ → Multiname
 public n = names.QName false 1 n
 
-abbrev pub method : (params : List ℕ) → (flags : ℕ) → Method
-method params flags = record { ret = 0; params = params; name = 0; flags = flags; options = []; param_names = [] }
+abbrev pub method_with : (params : List ℕ) → (flags : ℕ) → Method
+method_with params flags = record { ret = 0; params = params; name = 0; flags = flags; options = []; param_names = [] }
 
-abbrev pub plain : Method
-plain = method [] 0
+abbrev pub plain_method_of : Method
+plain_method_of = method_with [] 0
 
-abbrev pub script : (init : ℕ) → List TraitInfo → Script
-script init table = record { init = init; traits = table }
+abbrev pub script_with : (init : ℕ) → List TraitInfo → Script
+script_with init table = record { init = init; traits = table }
 
-abbrev pub trait : (name : ℕ) → TraitBody → TraitInfo
-trait n body = record { name = n; attrs = 0; body = body; metadata = [] }
+abbrev pub trait_with : (name : ℕ) → TraitBody → TraitInfo
+trait_with n body = record { name = n; attrs = 0; body = body; metadata = [] }
 
 -- a slot of type any
-abbrev pub slot : (name number : ℕ) → TraitInfo
-slot n id = trait n (traits.Slot id 0 None false)
+abbrev pub slot_of_any : (name number : ℕ) → TraitInfo
+slot_of_any n id = trait_with n (traits.Slot id 0 None false)
 
 -- of a method, with so many values, locals and scopes at most
-abbrev pub body : (method values locals scopes : ℕ) → List Instr → Body
-body m values locals scopes code = record {
-  method = m;
+abbrev pub body_with_code : (method values locals scopes : ℕ) → List Instr → Body
+body_with_code m values locals scopes code = record {
+  method_with = m;
   max_stack = values;
   local_count = locals;
   init_scope = 0;
@@ -200,12 +200,12 @@ abbrev pub catching : List Handler → Body → Body
 catching hs b = record b { handlers = hs }
 
 -- up to a place the handler for a type goes on at a target
-abbrev pub handler : (from to target type : ℕ) → Handler
-handler from to target type = record { from = from; to = to; target = target; exc_type = type; var_name = 0 }
+abbrev pub example_handler : (from to target type : ℕ) → Handler
+example_handler from to target type = record { from = from; to = to; target = target; exc_type = type; var_name = 0 }
 
 -- a layout for each class of the host, for its class object, and for some other parts
-abbrev pub setting : Abc → List Part → Setting
-setting v more = record {
+abbrev pub example_setting : Abc → List Part → Setting
+example_setting v more = record {
   linked = record {
     file = v;
     parts = map (λ c. parts.Host c) host_classes
@@ -216,7 +216,7 @@ setting v more = record {
 
 -- one script, whose init has this code
 abbrev pub program : List (List ℕ) → List Multiname → List Instr → Setting
-program strings ns code = setting (file_of strings ns (plain ∷ []) (script 0 [] ∷ []) (body 0 3 2 2 code ∷ [])) (parts.Global 0 ∷ [])
+program strings ns code = example_setting (example_file strings ns (plain_method_of ∷ []) (script_with 0 [] ∷ []) (body_with_code 0 3 2 2 code ∷ [])) (parts.Global 0 ∷ [])
 
 abbrev pub within : (objects cells text frames stack : ℕ) → Limits
 within objects cells text frames stack = record { objects = objects; cells = cells; text = text; frames = frames; stack = stack }
@@ -225,38 +225,38 @@ abbrev pub ample : Limits
 ample = within 100 100 100 10 100
 
 -- a text and a line feed
-abbrev pub line : List ℕ → List ℕ
-line text = text ++ 10 ∷ []
+abbrev pub text_line : List ℕ → List ℕ
+text_line text = text ++ 10 ∷ []
 
 -- ---- programs
 
 -- returns at once
-abbrev pub empty : Setting
-empty = program [] [] (returnvoid ∷ [])
+abbrev pub empty_program : Setting
+empty_program = program [] [] (returnvoid ∷ [])
 
 -- 1 / 0
 abbrev pub divides : Setting
 divides = program [] [] (pushbyte 1 ∷ pushbyte 0 ∷ divide ∷ pop ∷ returnvoid ∷ [])
 
 -- null as an object throws, and its error takes an object
-abbrev pub objects : Setting
-objects = program [] [] (pushnull ∷ convert_o ∷ pop ∷ returnvoid ∷ [])
+abbrev pub object_errors : Setting
+object_errors = program [] [] (pushnull ∷ convert_o ∷ pop ∷ returnvoid ∷ [])
 
 -- trace("Hi")
-abbrev pub hi : Setting
-hi = program (codes "trace" ∷ codes "Hi" ∷ []) (public 1 ∷ [])
+abbrev pub program_hi : Setting
+program_hi = program (codes "trace" ∷ codes "Hi" ∷ []) (public 1 ∷ [])
     (getlocal_0 ∷ pushscope ∷ findpropstrict 1 ∷ pushstring 2 ∷ callpropvoid 1 1 ∷ returnvoid ∷ [])
 
 -- sets x of Object's prototype, and reads it of a new object by its public and by its private name
-abbrev pub properties : Setting
-properties = program (codes "trace" ∷ codes "Object" ∷ codes "prototype" ∷ codes "x" ∷ codes "seven" ∷ [])
+abbrev pub property_program : Setting
+property_program = program (codes "trace" ∷ codes "Object" ∷ codes "prototype" ∷ codes "x" ∷ codes "seven" ∷ [])
     (public 1 ∷ public 2 ∷ public 3 ∷ public 4 ∷ names.QName false 2 4 ∷ [])
     (getlocal_0 ∷ pushscope ∷ findpropstrict 1 ∷ getlex 2 ∷ getproperty 3 ∷ pushstring 5 ∷ setproperty 4 ∷ newobject 0 ∷ getproperty 4
     ∷ newobject 0 ∷ getproperty 5 ∷ callpropvoid 1 2 ∷ returnvoid ∷ [])
 
 -- pushes an object whose property x is 8 as a scope, as pushwith or as pushscope does, and reads x in the scopes
-abbrev pub scoped : Instr → Setting
-scoped push = program (codes "trace" ∷ codes "x" ∷ []) (public 1 ∷ public 2 ∷ [])
+abbrev pub scope_program : Instr → Setting
+scope_program push = program (codes "trace" ∷ codes "x" ∷ []) (public 1 ∷ public 2 ∷ [])
     (getlocal_0 ∷ pushscope ∷ pushstring 2 ∷ pushbyte 8 ∷ newobject 1 ∷ push ∷ findpropstrict 1 ∷ getlex 2 ∷ callpropvoid 1 1 ∷ returnvoid ∷ [])
 
 -- an array of 8 and 9, whose element 2 is set; its element 1 and its length
@@ -267,73 +267,73 @@ array = program (codes "trace" ∷ codes "length" ∷ []) (public 1 ∷ public 2
 
 -- f throws an Error; of two handlers that cover its call, the first is for another type
 abbrev pub thrower : Setting
-thrower = setting
-    (file_of (codes "trace" ∷ codes "Error" ∷ codes "TypeError" ∷ codes "f" ∷ codes "caught" ∷ [])
-    (public 1 ∷ public 2 ∷ public 3 ∷ public 4 ∷ []) (plain ∷ plain ∷ [])
-    (script 0 (trait 4 (traits.Method 0 1) ∷ []) ∷ [])
-    (catching (handler 2 4 5 3 ∷ handler 2 4 7 2 ∷ [])
-    (body 0 2 1 1 (getlocal_0 ∷ pushscope ∷ getlocal_0 ∷ callpropvoid 4 0 ∷ returnvoid ∷ pop ∷ returnvoid ∷ pop ∷ findpropstrict 1 ∷ pushstring 5
+thrower = example_setting
+    (example_file (codes "trace" ∷ codes "Error" ∷ codes "TypeError" ∷ codes "f" ∷ codes "caught" ∷ [])
+    (public 1 ∷ public 2 ∷ public 3 ∷ public 4 ∷ []) (plain_method_of ∷ plain_method_of ∷ [])
+    (script_with 0 (trait_with 4 (traits.Method 0 1) ∷ []) ∷ [])
+    (catching (example_handler 2 4 5 3 ∷ example_handler 2 4 7 2 ∷ [])
+    (body_with_code 0 2 1 1 (getlocal_0 ∷ pushscope ∷ getlocal_0 ∷ callpropvoid 4 0 ∷ returnvoid ∷ pop ∷ returnvoid ∷ pop ∷ findpropstrict 1 ∷ pushstring 5
     ∷ callpropvoid 1 1 ∷ returnvoid ∷ []))
-    ∷ body 1 2 1 1 (getlex 2 ∷ construct 0 ∷ throw ∷ []) ∷ []))
+    ∷ body_with_code 1 2 1 1 (getlex 2 ∷ construct 0 ∷ throw ∷ []) ∷ []))
     (parts.Global 0 ∷ [])
 
 -- the second script, which is run, reads the slot x of the first, whose init sets it
 abbrev pub starter : Setting
-starter = setting
-    (file_of (codes "trace" ∷ codes "x" ∷ codes "seven" ∷ []) (public 1 ∷ public 2 ∷ []) (plain ∷ plain ∷ [])
-    (script 0 (slot 2 1 ∷ []) ∷ script 1 [] ∷ [])
-    (body 0 2 1 1 (getlocal_0 ∷ pushscope ∷ getlocal_0 ∷ pushstring 3 ∷ setslot 1 ∷ returnvoid ∷ [])
-    ∷ body 1 2 1 1 (getlocal_0 ∷ pushscope ∷ findpropstrict 1 ∷ getlex 2 ∷ callpropvoid 1 1 ∷ returnvoid ∷ []) ∷ []))
+starter = example_setting
+    (example_file (codes "trace" ∷ codes "x" ∷ codes "seven" ∷ []) (public 1 ∷ public 2 ∷ []) (plain_method_of ∷ plain_method_of ∷ [])
+    (script_with 0 (slot_of_any 2 1 ∷ []) ∷ script_with 1 [] ∷ [])
+    (body_with_code 0 2 1 1 (getlocal_0 ∷ pushscope ∷ getlocal_0 ∷ pushstring 3 ∷ setslot 1 ∷ returnvoid ∷ [])
+    ∷ body_with_code 1 2 1 1 (getlocal_0 ∷ pushscope ∷ findpropstrict 1 ∷ getlex 2 ∷ callpropvoid 1 1 ∷ returnvoid ∷ []) ∷ []))
     (parts.Global 0 ∷ parts.Global 1 ∷ [])
 
 -- a getter and a setter v: v is 7, and traces what it is set to
 abbrev pub accessors : Setting
-accessors = setting
-    (file_of (codes "trace" ∷ codes "v" ∷ []) (public 1 ∷ public 2 ∷ []) (plain ∷ plain ∷ method (0 ∷ []) 0 ∷ [])
-    (script 0 (trait 2 (traits.Getter 0 1) ∷ trait 2 (traits.Setter 0 2) ∷ []) ∷ [])
-    (body 0 3 1 1 (getlocal_0 ∷ pushscope ∷ findpropstrict 1 ∷ getlocal_0 ∷ getproperty 2 ∷ callpropvoid 1 1 ∷ getlocal_0 ∷ pushbyte 5
+accessors = example_setting
+    (example_file (codes "trace" ∷ codes "v" ∷ []) (public 1 ∷ public 2 ∷ []) (plain_method_of ∷ plain_method_of ∷ method_with (0 ∷ []) 0 ∷ [])
+    (script_with 0 (trait_with 2 (traits.Getter 0 1) ∷ trait_with 2 (traits.Setter 0 2) ∷ []) ∷ [])
+    (body_with_code 0 3 1 1 (getlocal_0 ∷ pushscope ∷ findpropstrict 1 ∷ getlocal_0 ∷ getproperty 2 ∷ callpropvoid 1 1 ∷ getlocal_0 ∷ pushbyte 5
     ∷ setproperty 2 ∷ returnvoid ∷ [])
-    ∷ body 1 1 1 0 (pushbyte 7 ∷ returnvalue ∷ [])
-    ∷ body 2 2 2 1 (getlocal_0 ∷ pushscope ∷ findpropstrict 1 ∷ getlocal_1 ∷ callpropvoid 1 1 ∷ returnvoid ∷ []) ∷ []))
+    ∷ body_with_code 1 1 1 0 (pushbyte 7 ∷ returnvalue ∷ [])
+    ∷ body_with_code 2 2 2 1 (getlocal_0 ∷ pushscope ∷ findpropstrict 1 ∷ getlocal_1 ∷ callpropvoid 1 1 ∷ returnvoid ∷ []) ∷ []))
     (parts.Global 0 ∷ [])
 
 -- a function made where an activation with the slot x is in scope: it reads x
 abbrev pub closure : Setting
-closure = setting
-    (file_of (codes "trace" ∷ codes "x" ∷ []) (public 1 ∷ public 2 ∷ []) (method [] 2 ∷ plain ∷ []) (script 0 [] ∷ [])
-    (record (body 0 3 1 2 (getlocal_0 ∷ pushscope ∷ newactivation ∷ dup ∷ pushscope ∷ pushbyte 9 ∷ setslot 1 ∷ findpropstrict 1
-    ∷ newfunction 1 ∷ pushnull ∷ call 0 ∷ callpropvoid 1 1 ∷ returnvoid ∷ [])) { traits = slot 2 1 ∷ [] }
-    ∷ body 1 1 1 0 (getlex 2 ∷ returnvalue ∷ []) ∷ []))
+closure = example_setting
+    (example_file (codes "trace" ∷ codes "x" ∷ []) (public 1 ∷ public 2 ∷ []) (method_with [] 2 ∷ plain_method_of ∷ []) (script_with 0 [] ∷ [])
+    (record (body_with_code 0 3 1 2 (getlocal_0 ∷ pushscope ∷ newactivation ∷ dup ∷ pushscope ∷ pushbyte 9 ∷ setslot 1 ∷ findpropstrict 1
+    ∷ newfunction 1 ∷ pushnull ∷ call 0 ∷ callpropvoid 1 1 ∷ returnvoid ∷ [])) { traits = slot_of_any 2 1 ∷ [] }
+    ∷ body_with_code 1 1 1 0 (getlex 2 ∷ returnvalue ∷ []) ∷ []))
     (parts.Global 0 ∷ parts.Activation 0 ∷ [])
 
 -- new on what a getter gives: the class Object
 abbrev pub maker : Setting
-maker = setting
-    (file_of (codes "trace" ∷ codes "K" ∷ codes "Object" ∷ []) (public 1 ∷ public 2 ∷ public 3 ∷ []) (plain ∷ plain ∷ [])
-    (script 0 (trait 2 (traits.Getter 0 1) ∷ []) ∷ [])
-    (body 0 2 1 1 (getlocal_0 ∷ pushscope ∷ findpropstrict 1 ∷ getlocal_0 ∷ constructprop 2 0 ∷ typeof ∷ callpropvoid 1 1 ∷ returnvoid ∷ [])
-    ∷ body 1 1 1 0 (getlex 3 ∷ returnvalue ∷ []) ∷ []))
+maker = example_setting
+    (example_file (codes "trace" ∷ codes "K" ∷ codes "Object" ∷ []) (public 1 ∷ public 2 ∷ public 3 ∷ []) (plain_method_of ∷ plain_method_of ∷ [])
+    (script_with 0 (trait_with 2 (traits.Getter 0 1) ∷ []) ∷ [])
+    (body_with_code 0 2 1 1 (getlocal_0 ∷ pushscope ∷ findpropstrict 1 ∷ getlocal_0 ∷ constructprop 2 0 ∷ typeof ∷ callpropvoid 1 1 ∷ returnvoid ∷ [])
+    ∷ body_with_code 1 1 1 0 (getlex 3 ∷ returnvalue ∷ []) ∷ []))
     (parts.Global 0 ∷ [])
 
 -- f has one parameter, and gives the length of the array of the arguments behind it; the init throws null unless that is 2
-abbrev pub rest : Setting
-rest = setting
-    (file_of (codes "f" ∷ codes "length" ∷ []) (public 1 ∷ public 2 ∷ []) (plain ∷ method (0 ∷ []) 4 ∷ [])
-    (script 0 (trait 1 (traits.Method 0 1) ∷ []) ∷ [])
-    (body 0 5 1 1 (getlocal_0 ∷ pushbyte 5 ∷ pushbyte 6 ∷ pushbyte 7 ∷ callproperty 1 3 ∷ pushbyte 2 ∷ ifeq 9 ∷ pushnull ∷ throw
+abbrev pub rest_program : Setting
+rest_program = example_setting
+    (example_file (codes "f" ∷ codes "length" ∷ []) (public 1 ∷ public 2 ∷ []) (plain_method_of ∷ method_with (0 ∷ []) 4 ∷ [])
+    (script_with 0 (trait_with 1 (traits.Method 0 1) ∷ []) ∷ [])
+    (body_with_code 0 5 1 1 (getlocal_0 ∷ pushbyte 5 ∷ pushbyte 6 ∷ pushbyte 7 ∷ callproperty 1 3 ∷ pushbyte 2 ∷ ifeq 9 ∷ pushnull ∷ throw
     ∷ returnvoid ∷ [])
-    ∷ body 1 1 3 0 (getlocal_2 ∷ getproperty 2 ∷ returnvalue ∷ []) ∷ []))
+    ∷ body_with_code 1 1 3 0 (getlocal_2 ∷ getproperty 2 ∷ returnvalue ∷ []) ∷ []))
     (parts.Global 0 ∷ [])
 
 -- a class as a compiler writes it: Main extends Object, and its instances trace Hello as they are made
-abbrev pub class : Setting
-class = setting
-    (record (file_of (codes "Main" ∷ codes "Object" ∷ codes "trace" ∷ codes "Hello" ∷ []) (public 1 ∷ public 2 ∷ public 3 ∷ [])
-    (plain ∷ plain ∷ plain ∷ []) (script 2 (trait 1 (traits.Class 1 0) ∷ []) ∷ [])
-    (record (body 0 2 1 3 (getlocal_0 ∷ pushscope ∷ returnvoid ∷ [])) { init_scope = 2 }
-    ∷ record (body 1 2 1 4 (getlocal_0 ∷ pushscope ∷ getlocal_0 ∷ constructsuper 0 ∷ findpropstrict 3 ∷ pushstring 4 ∷ callpropvoid 3 1
+abbrev pub compiled_class : Setting
+compiled_class = example_setting
+    (record (example_file (codes "Main" ∷ codes "Object" ∷ codes "trace" ∷ codes "Hello" ∷ []) (public 1 ∷ public 2 ∷ public 3 ∷ [])
+    (plain_method_of ∷ plain_method_of ∷ plain_method_of ∷ []) (script_with 2 (trait_with 1 (traits.Class 1 0) ∷ []) ∷ [])
+    (record (body_with_code 0 2 1 3 (getlocal_0 ∷ pushscope ∷ returnvoid ∷ [])) { init_scope = 2 }
+    ∷ record (body_with_code 1 2 1 4 (getlocal_0 ∷ pushscope ∷ getlocal_0 ∷ constructsuper 0 ∷ findpropstrict 3 ∷ pushstring 4 ∷ callpropvoid 3 1
     ∷ returnvoid ∷ [])) { init_scope = 3 }
-    ∷ record (body 2 2 1 3 (getlocal_0 ∷ pushscope ∷ findpropstrict 1 ∷ getlex 2 ∷ pushscope ∷ getlex 2 ∷ newclass 0 ∷ popscope
+    ∷ record (body_with_code 2 2 1 3 (getlocal_0 ∷ pushscope ∷ findpropstrict 1 ∷ getlex 2 ∷ pushscope ∷ getlex 2 ∷ newclass 0 ∷ popscope
     ∷ initproperty 1 ∷ findpropstrict 1 ∷ constructprop 1 0 ∷ pop ∷ returnvoid ∷ [])) { init_scope = 1 } ∷ [])) {
       instances = record { name = 1; super_name = 2; flags = 1; protected_ns = None; interfaces = []; iinit = 1; traits = [] } ∷ [];
       classes = record { cinit = 0; traits = [] } ∷ [];
@@ -346,9 +346,9 @@ abbrev pub steps_on : Setting → Stepped → Stepped
 steps_on p (Steps q) = step p q
 steps_on p (Ends w e) = Ends w e
 
-abbrev pub stepped : Setting → ℕ → Stepped
-stepped p zero = Steps (first_state p ample)
-stepped p (suc n) = steps_on p (stepped p n)
+abbrev pub state_after : Setting → ℕ → Stepped
+state_after p zero = Steps (first_state p ample)
+state_after p (suc n) = steps_on p (state_after p n)
 
 abbrev pub wait_below : List Frame → Option Wait
 wait_below [] = None
@@ -360,46 +360,46 @@ wait_in (Steps q) = wait_below q.frames
 wait_in (Ends w e) = None
 
 abbrev pub wait_after : Setting → ℕ → Option Wait
-wait_after p n = wait_in (stepped p n)
+wait_after p n = wait_in (state_after p n)
 
 -- ---- what holds of them, each with as much fuel as it takes steps
 
 -- small programs write this and end so
 pub record RunExamples : Type 0 where
-  pub returns : meaning empty ample 2 ≡ Ran [] Done
-  pub spent : meaning empty ample 1 ≡ Ran [] FuelSpent
-  pub no_frame : meaning empty (within 100 100 100 0 100) 2 ≡ Ran [] (Full limits.Frames)
+  pub returns : meaning empty_program ample 2 ≡ Ran [] Done
+  pub spent : meaning empty_program ample 1 ≡ Ran [] FuelSpent
+  pub no_frame : meaning empty_program (within 100 100 100 0 100) 2 ≡ Ran [] (Full limits.Frames)
   -- 32 objects are too few to begin
-  pub too_small : meaning empty (within 32 100 100 10 100) 2 ≡ TooSmall limits.Objects
+  pub too_small : meaning empty_program (within 32 100 100 10 100) 2 ≡ TooSmall limits.Objects
   -- the place of a fault: method 0, instruction 2
   pub no_number : meaning divides ample 4 ≡ Ran [] (Profile 0 2 faults.NotANumber)
-  pub throws : meaning objects ample 3 ≡ Ran [] (Uncaught (thrown.HostClass hosts.TypeError))
-  pub no_room : meaning objects (within 33 100 100 10 100) 3 ≡ Ran [] (Full limits.Objects)
-  pub says_hi : meaning hi ample 7 ≡ Ran (line (codes "Hi")) Done
-  pub public_property : meaning properties ample 14 ≡ Ran (line (codes "seven undefined")) Done
+  pub throws : meaning object_errors ample 3 ≡ Ran [] (Uncaught (thrown.HostClass hosts.TypeError))
+  pub no_room : meaning object_errors (within 33 100 100 10 100) 3 ≡ Ran [] (Full limits.Objects)
+  pub says_hi : meaning program_hi ample 7 ≡ Ran (text_line (codes "Hi")) Done
+  pub public_property : meaning property_program ample 14 ≡ Ran (text_line (codes "seven undefined")) Done
   -- a property is found in a with scope alone
-  pub with_scope : meaning (scoped pushwith) ample 11 ≡ Ran (line (codes "8")) Done
-  pub plain_scope : meaning (scoped pushscope) ample 9 ≡ Ran [] (Uncaught (thrown.HostClass hosts.ReferenceError))
-  pub elements : meaning array ample 19 ≡ Ran (line (codes "9 3")) Done
-  pub caught : meaning thrower ample 13 ≡ Ran (line (codes "caught")) Done
-  pub started : meaning starter ample 14 ≡ Ran (line (codes "seven")) Done
-  pub accessed : meaning accessors ample 19 ≡ Ran (line (codes "7") ++ line (codes "5")) Done
-  pub closed_over : meaning closure ample 16 ≡ Ran (line (codes "9")) Done
-  pub made_of_getter : meaning maker ample 11 ≡ Ran (line (codes "object")) Done
-  pub two_more : meaning rest ample 12 ≡ Ran [] Done
+  pub with_scope : meaning (scope_program pushwith) ample 11 ≡ Ran (text_line (codes "8")) Done
+  pub plain_scope : meaning (scope_program pushscope) ample 9 ≡ Ran [] (Uncaught (thrown.HostClass hosts.ReferenceError))
+  pub elements : meaning array ample 19 ≡ Ran (text_line (codes "9 3")) Done
+  pub caught : meaning thrower ample 13 ≡ Ran (text_line (codes "caught")) Done
+  pub started : meaning starter ample 14 ≡ Ran (text_line (codes "seven")) Done
+  pub accessed : meaning accessors ample 19 ≡ Ran (text_line (codes "7") ++ text_line (codes "5")) Done
+  pub closed_over : meaning closure ample 16 ≡ Ran (text_line (codes "9")) Done
+  pub made_of_getter : meaning maker ample 11 ≡ Ran (text_line (codes "object")) Done
+  pub two_more : meaning rest_program ample 12 ≡ Ran [] Done
   -- it takes 36 objects, 37 cells, 2 frames and 9 values
-  pub made : meaning class (within 36 37 0 2 9) 25 ≡ Ran (line (codes "Hello")) Done
-  pub no_cell : meaning class (within 36 36 0 2 9) 25 ≡ Ran [] (Full limits.Cells)
+  pub made : meaning compiled_class (within 36 37 0 2 9) 25 ≡ Ran (text_line (codes "Hello")) Done
+  pub no_cell : meaning compiled_class (within 36 36 0 2 9) 25 ≡ Ran [] (Full limits.Cells)
 
 -- each of the ways in which a frame waits
 pub record WaitExamples : Type 0 where
   -- a method, whose value is pushed; a getter too; a setter, whose value is dropped
-  pub pushes : wait_after rest 6 ≡ Some waits.Push
+  pub pushes : wait_after rest_program 6 ≡ Some waits.Push
   pub getter_pushes : wait_after accessors 6 ≡ Some waits.Push
   pub setter_drops : wait_after accessors 12 ≡ Some waits.Drop
   -- a class object, while its initializer runs; an instance, while its maker runs
-  pub keeps_class : (v : Value) × (wait_after class 8 ≡ Some (waits.Keep v))
-  pub keeps_instance : (v : Value) × (wait_after class 15 ≡ Some (waits.Keep v))
+  pub keeps_class : (v : Value) × (wait_after compiled_class 8 ≡ Some (waits.Keep v))
+  pub keeps_instance : (v : Value) × (wait_after compiled_class 15 ≡ Some (waits.Keep v))
   -- an instruction that starts a script is executed again
   pub starts_again : wait_after starter 5 ≡ Some waits.Again
   -- new on the class that the getter gives, with no argument

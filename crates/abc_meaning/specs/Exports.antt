@@ -14,9 +14,9 @@ use Rattle.abc_meaning.specs.Throwing.{last_script}
 use Rattle.abc_meaning.specs.Setting.{Setting}
 use Rattle.abc_verify_typing.specs.Typing.{In}
 
-abbrev pub method_in : TraitBody → Option ℕ
-method_in (bodies.Method disp m) = Some m
-method_in other = None
+abbrev pub exported_method : TraitBody → Option ℕ
+exported_method (bodies.Method disp m) = Some m
+exported_method other = None
 
 abbrev pub has_public_name : Abc → List ℕ → DefiniteName → Bool
 has_public_name v s d = bytes_eq (text v d.string) s && is_public v d.ns
@@ -26,11 +26,11 @@ is_method None = false
 is_method (Some m) = true
 
 abbrev pub is_export : Abc → List ℕ → TraitInfo → Bool
-is_export v s t = is_method (method_in t.body) && has_public_name v s (qname (name v t.name))
+is_export v s t = is_method (exported_method t.body) && has_public_name v s (qname (name v t.name))
 
 abbrev pub method_of_trait : Option TraitInfo → Option ℕ
 method_of_trait None = None
-method_of_trait (Some t) = method_in t.body
+method_of_trait (Some t) = exported_method t.body
 
 -- the method of the first such trait with that text
 abbrev pub export : Setting → List ℕ → Option ℕ

@@ -3,9 +3,9 @@ use Rattle.std.specs.Prelude.{◌≡◌, ◌≢◌, ◌+◌, ◌<◌, ◌≤◌,
 use Rattle.abc_meaning.specs.At.{Above, Act, Goes, Returns, Stays}
 use Rattle.abc_base.specs.declared.names.HostClass.TheVariants as hosts
 use Rattle.abc_heap_store.specs.Heap.{Heap}
-use Rattle.abc_meaning.specs.Sound.{WorldSound, put_by, taken_by}
+use Rattle.abc_meaning.specs.Sound.{WorldSound, put_by_return, taken_by_return}
 use Rattle.abc_objects.specs.Growing.{Grows}
-use Rattle.abc_objects.specs.Stands.{AreEntries, Each, IsScope}
+use Rattle.abc_objects.specs.Stands.{AreEntries, EachAt, IsScope}
 use Rattle.abc_objects.specs.Values.{Exists}
 use Rattle.abc_frames.specs.Frame.{Frame}
 use Rattle.abc_verify_typing.specs.Routines.{Routine}
@@ -44,13 +44,13 @@ IsFairPart p w (Stopped n why) = IsLeft p w n × IsFairStop p n why
 
 -- a frame that waits: what it names is there, also in a heap that grew, and there is room for what returns
 pub record IsWaiting (p : Setting) (h : Heap) (f : Frame) : Type 0 where
-  pub stack : Each (Exists p.linked h) f.stack
-  pub locals : Each (Exists p.linked h) f.locals
+  pub stack : EachAt (Exists p.linked h) f.stack
+  pub locals : EachAt (Exists p.linked h) f.locals
   pub scopes : AreEntries h f.scopes
   pub saved : IsScope h f.saved
   pub home : f.home < length p.linked.file.scripts
   pub routine : Routine
   pub body : routine_of p f.method ≡ Some routine
-  pub room : length f.stack + put_by f.wait ≤ routine.max_stack + taken_by f.wait
+  pub room : length f.stack + put_by_return f.wait ≤ routine.max_stack + taken_by_return f.wait
   pub place : f.place + 1 < 2 ^ 32
   pub this : 0 < length f.locals

@@ -3,7 +3,7 @@ use Rattle.std.specs.Prelude.{◌≡◌, ◌⊎◌, ℕ, List, ◌++◌, set, tr
 use Rattle.abc_meaning.specs.World.{World}
 use Rattle.abc_meaning.specs.Throwing.{Ends, Stepped, Steps}
 
-pub record IsFront (old new : World) : Type 0 where
+pub record IsWorldFront (old new : World) : Type 0 where
   pub more : List ℕ
   pub is : new.wrote ≡ old.wrote ++ more
 
@@ -13,12 +13,12 @@ left_by (Steps q) = q.world
 left_by (Ends w e) = w
 
 -- nothing is written, and no script is started
-pub record Keeps (old new : World) : Type 0 where
+pub record FrontKeeps (old new : World) : Type 0 where
   pub wrote : new.wrote ≡ old.wrote
   pub started : new.started ≡ old.started
 
 -- something is written, and no script is started
-pub record Writes (old new : World) : Type 0 where
+pub record WritesSome (old new : World) : Type 0 where
   pub more : List ℕ
   pub is : new.wrote ≡ old.wrote ++ more
   pub started : new.started ≡ old.started
@@ -31,4 +31,4 @@ pub record Starts (old new : World) : Type 0 where
 
 -- at most one of both
 abbrev pub Changes : World → World → Type 0
-Changes old new = Writes old new ⊎ Starts old new
+Changes old new = WritesSome old new ⊎ Starts old new

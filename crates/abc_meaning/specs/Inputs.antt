@@ -2,8 +2,8 @@
 use Rattle.std.specs.Prelude.{◌≡◌, ℕ, ◌<◌, ◌^◌, List, ◌++◌, length}
 use Rattle.abc_base.specs.declared.formula.Formula.{Formula}
 use Rattle.abc_heap_store.specs.declared.records.Limits.{Limits}
-use Rattle.abc_link_layouts.specs.Numbering.{IsNumbered}
-use Rattle.abc_meaning.specs.ThrowLaws.{IsVerified}
+use Rattle.abc_link_layouts.specs.Numbering.{HasLayoutNumbers}
+use Rattle.abc_meaning.specs.ThrowLaws.{IsVerifiedSetting}
 use Rattle.abc_link_names.specs.Linked.{LinkedFile}
 use Rattle.abc_file_types.specs.Files.{IsFile}
 use Rattle.abc_log.specs.Lines.{AreLimits, head_line, limits_line}
@@ -15,7 +15,7 @@ pub record IsLogOf (formulas : List Formula) (l : LinkedFile) (fuel : ℕ) (m : 
   pub file : List ℕ
   pub spells : IsFile l.file file
   pub short : length file < 2 ^ 32
-  pub verified : IsVerified (record { linked = l; formulas = formulas })
-  pub numbered : IsNumbered l
+  pub verified : IsVerifiedSetting (record { linked = l; formulas = formulas })
+  pub numbered : HasLayoutNumbers l
   pub limits : AreLimits fuel m
   pub is : input ≡ head_line (length file) ++ file ++ limits_line fuel m ++ log (record { linked = l; formulas = formulas }) m fuel

@@ -20,20 +20,20 @@ world_left (Steps q) = q.world
 world_left (Ends w e) = w
 
 -- a search that starts a script is the start of it, whatever becomes of that; another step is the newest frame's instruction
-abbrev pub instruction_line : Option ℕ → Frame → List ℕ
-instruction_line (Some s) f = start_line s
-instruction_line None f = step_line f.method f.place
+abbrev pub step_lines : Option ℕ → Frame → List ℕ
+step_lines (Some s) f = start_line s
+step_lines None f = step_line f.method f.place
 
 abbrev pub line_of : Setting → Machine → (now : List Bool) → List Frame → List ℕ
 line_of p q now [] = start_line (last_script p)
-line_of p q now (f ∷ fs) = instruction_line (started_from 0 q.world.started now) f
+line_of p q now (f ∷ fs) = step_lines (started_from 0 q.world.started now) f
 
 -- the bytes that it wrote
 abbrev pub wrote_since : World → World → List ℕ
 wrote_since w n = drop (length w.wrote) n.wrote
 
-abbrev pub lines_of : Setting → Machine → Stepped → List ℕ
-lines_of p q r = line_of p q (world_left r).started q.frames ++ out_line (wrote_since q.world (world_left r))
+abbrev pub lines_of_step : Setting → Machine → Stepped → List ℕ
+lines_of_step p q r = line_of p q (world_left r).started q.frames ++ out_line (wrote_since q.world (world_left r))
 
 -- ---- a run
 
@@ -43,7 +43,7 @@ then_logs p (Ends w e) go = end_line p.linked.file e
 
 abbrev pub logs_for : Setting → (fuel : ℕ) → Machine → List ℕ
 logs_for p zero q = end_line p.linked.file FuelSpent
-logs_for p (suc fuel) q = lines_of p q (step p q) ++ then_logs p (step p q) (logs_for p fuel)
+logs_for p (suc fuel) q = lines_of_step p q (step p q) ++ then_logs p (step p q) (logs_for p fuel)
 
 -- how many steps it takes to its end
 abbrev pub then_counts : Stepped → (Machine → ℕ) → ℕ

@@ -18,12 +18,12 @@ use Rattle.abc_link_names.specs.declared.part.Part.TheVariants as parts
 use Rattle.abc_link_names.specs.Bases.{is_interface}
 use Rattle.std.specs.Prelude.{Some}
 use Rattle.std.specs.declared.option.Option.{Option}
-use Rattle.abc_meaning.specs.Calling.{Came, Makes, got, only}
-use Rattle.abc_meaning.specs.Entering.{arguments, framed}
+use Rattle.abc_meaning.specs.Calling.{Came, Makes, got, only_argument}
+use Rattle.abc_meaning.specs.Entering.{arguments_for, frame_for}
 use Rattle.abc_meaning.specs.Objects.{new_array, new_object, place, set_property}
 use Rattle.abc_meaning.specs.Ops.{as_boolean, as_int, as_number, as_text, as_uint}
 use Rattle.abc_meaning.specs.Setting.{Setting, method_of}
-use Rattle.abc_meaning.specs.World.{Run, World, done, fails, throws, ◌>>=◌, ◌>>◌, some, the, see, object}
+use Rattle.abc_meaning.specs.World.{Run, World, pure, fails, throws, ◌>>=◌, ◌>>◌, some, the, see, object_named}
 
 -- the prototype of the class that a class object is of
 abbrev pub prototype_in : ObjId → World → Option ObjId
@@ -32,13 +32,13 @@ prototype_in o w = prototype_of w.heap o.0
 -- ---- Object, Error and its three: the first argument is the message, and a second is counted alone
 
 abbrev pub message_of : Setting → List Value → Run (List Value)
-message_of p [] = done []
-message_of p (v ∷ vs) = as_text p v >>= λ t. done (t ∷ [])
+message_of p [] = pure []
+message_of p (v ∷ vs) = as_text p v >>= λ t. pure (t ∷ [])
 
 -- set as an own property, whatever the object's class declares
 abbrev pub set_message : Setting → ObjId → List Value → Run (Unit {0})
 set_message p o (Text t ∷ vs) = set_property p o (fixed_span Message) (Text t)
-set_message p o vs = done tt
+set_message p o vs = pure tt
 
 abbrev pub most_arguments : HostClass → ℕ
 most_arguments hosts.Object = 0
@@ -64,11 +64,11 @@ new_elements p (Num (negsuc n) ∷ []) = fails faults.ArrayIndex
 new_elements p args = new_array p args
 
 abbrev pub new_of_class : Setting → ObjId → HostClass → List Value → Run Came
-new_of_class p o hosts.Str args = only args (λ v. as_text p v >>= got)
-new_of_class p o hosts.Int args = only args (λ v. as_int p v >>= got)
-new_of_class p o hosts.UInt args = only args (λ v. as_uint p v >>= got)
-new_of_class p o hosts.Number args = only args (λ v. as_number p v >>= got)
-new_of_class p o hosts.Boolean args = only args (λ v. as_boolean p v >>= got)
+new_of_class p o hosts.Str args = only_argument args (λ v. as_text p v >>= got)
+new_of_class p o hosts.Int args = only_argument args (λ v. as_int p v >>= got)
+new_of_class p o hosts.UInt args = only_argument args (λ v. as_uint p v >>= got)
+new_of_class p o hosts.Number args = only_argument args (λ v. as_number p v >>= got)
+new_of_class p o hosts.Boolean args = only_argument args (λ v. as_boolean p v >>= got)
 new_of_class p o hosts.Array args = new_elements p args >>= λ made. got (Obj made)
 new_of_class p o hosts.Class args = throws hosts.TypeError
 new_of_class p o hosts.Function args = throws hosts.TypeError
@@ -81,11 +81,11 @@ abbrev pub new_instance : Setting → ObjId → (class home : ℕ) → ScopeId �
 new_instance p o k home instances args = do
   let n = (instance_at p.linked.file k).iinit
   m ← some (method_of p n)
-  vs ← arguments p m args
+  vs ← arguments_for p m args
   delegate ← see (prototype_in o)
   made ← new_object p (layout_of p.linked (parts.Instance k)).0 delegate whats.Plain
-  f ← framed p n m (Obj made) (place home (Some instances)) args vs
-  done (Makes f (Obj made))
+  f ← frame_for p n m (Obj made) (place home (Some instances)) args vs
+  pure (Makes f (Obj made))
 
 -- ---- any value
 
@@ -98,5 +98,5 @@ new_what p o (whats.Formula n) args = fails faults.FunctionConstruct
 new_what p o other args = throws hosts.TypeError
 
 abbrev pub new : Setting → Value → List Value → Run Came
-new p (Obj o) args = the (object o) >>= λ ob. new_what p o ob.what args
+new p (Obj o) args = the (object_named o) >>= λ ob. new_what p o ob.what args
 new p v args = throws hosts.TypeError

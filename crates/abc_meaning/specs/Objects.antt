@@ -9,8 +9,8 @@ use Rattle.abc_heap_values.specs.declared.values.Span.{Span}
 use Rattle.abc_heap_values.specs.declared.values.Value.{Value}
 use Rattle.abc_heap_store.specs.Changes.{with_array, with_class, with_made, with_object, with_scopes}
 use Rattle.abc_heap_store.specs.Heap.{Heap, obj_id}
-use Rattle.abc_heap_store.specs.Properties.{cells_to_put, place_in, with_delete, with_put}
-use Rattle.abc_heap_store.specs.Scopes.{scope_id, top}
+use Rattle.abc_heap_store.specs.Properties.{cells_to_put, place_of_property, with_delete, with_put}
+use Rattle.abc_heap_store.specs.Scopes.{scope_id, top_of_scopes}
 use Rattle.abc_heap_store.specs.Texts.{text_of}
 use Rattle.abc_heap_store.specs.declared.records.ScopeEntry.{ScopeEntry}
 use Rattle.abc_heap_store.specs.declared.records.ScopeId.{ScopeId}
@@ -22,7 +22,7 @@ use Rattle.abc_link_names.specs.declared.types.Owner.{Owner}
 use Rattle.abc_link_names.specs.declared.types.Owner.TheVariants as owners
 use Rattle.abc_objects.specs.Objects.{host_prototype}
 use Rattle.abc_meaning.specs.Setting.{Setting}
-use Rattle.abc_meaning.specs.World.{Run, World, done, stuck, ◌>>=◌, ◌>>◌, some, the, see, changes, object, room_for_objects, room_for_cells}
+use Rattle.abc_meaning.specs.World.{Run, World, pure, sticks, ◌>>=◌, ◌>>◌, some, the, see, changes, object_named, room_for_objects, room_for_cells}
 
 abbrev pub new_id : Heap → ObjId
 new_id h = obj_id (length h.objects)
@@ -54,7 +54,7 @@ new_array p elements = do
 
 -- a function that no one is bound to; it captures a scope stack, and object and scopes are taken at once
 abbrev pub top_scope : Option ScopeId → List ScopeEntry → Heap → Option ScopeId
-top_scope saved scopes h = top (length h.scopes) saved scopes
+top_scope saved scopes h = top_of_scopes (length h.scopes) saved scopes
 
 abbrev pub with_function : Setting → (method home : ℕ) → Option ObjId → Option ScopeId → List ScopeEntry → Heap → Heap
 with_function p method home delegate saved scopes h =
@@ -72,8 +72,8 @@ new_function p method home saved scopes = do
 -- ---- properties
 
 -- an own property takes the value; a new one takes a cell
-abbrev pub with_property : Setting → ObjId → Span → Value → Heap → Heap
-with_property p o name v h =
+abbrev pub heap_with_property : Setting → ObjId → Span → Value → Heap → Heap
+heap_with_property p o name v h =
     let text = text_of p.linked.file.strings h in
     with_object (with_put text (text name) name v) o.0 h
 
@@ -83,24 +83,24 @@ without_property p o name h =
     with_object (with_delete text (text name)) o.0 h
 
 abbrev pub own_place : Setting → ObjId → Span → World → Option ℕ
-own_place p o name w = place_in p.linked.file.strings w.heap o.0 name
+own_place p o name w = place_of_property p.linked.file.strings w.heap o.0 name
 
 -- an object's own property is set: its value is replaced, or a new one takes a cell
 abbrev pub set_property : Setting → ObjId → Span → Value → Run (Unit {0})
 set_property p o name v = do
   place ← see (own_place p o name)
   room_for_cells (cells_to_put place)
-  changes (with_property p o name v) (λ h. tt)
+  changes (heap_with_property p o name v) (λ h. tt)
 
 -- ---- class objects
 
-abbrev pub flat : {X : Type 0} → Option (Option X) → Option X
-flat None = None
-flat (Some o) = o
+abbrev pub flat_value : {X : Type 0} → Option (Option X) → Option X
+flat_value None = None
+flat_value (Some o) = o
 
 -- the class object of a class, once it is made
 abbrev pub class_object : ℕ → World → Option ObjId
-class_object k w = flat (slice_get w.heap.classes k)
+class_object k w = flat_value (slice_get w.heap.classes k)
 
 -- the prototype object and then the class object, taken together with the captured scopes and one more, that of the class object
 abbrev pub new_class : Setting → (class home : ℕ) → Option ObjId → Option ScopeId → List ScopeEntry → Run ObjId
@@ -131,18 +131,18 @@ abbrev pub instances_of : What → Option Place
 instances_of (whats.ClassObject class home statics instances) = Some (place home (Some instances))
 instances_of other = None
 
-abbrev pub kept_by : (What → Option Place) → ℕ → Run Place
-kept_by which k = do
+abbrev pub place_kept_by : (What → Option Place) → ℕ → Run Place
+place_kept_by which k = do
   o ← the (class_object k)
-  ob ← the (object o)
+  ob ← the (object_named o)
   some (which ob.what)
 
 -- a script's methods have its global object alone as saved scope, and its init has none
 abbrev pub place_of_owner : Owner → Run Place
-place_of_owner owners.Free = stuck
-place_of_owner (owners.ScriptInit s) = done (place s None)
-place_of_owner (owners.ScriptMethod s) = done (place s (Some (scope_id s)))
-place_of_owner (owners.ClassInit k) = kept_by statics_of k
-place_of_owner (owners.Static k) = kept_by statics_of k
-place_of_owner (owners.Iinit k) = kept_by instances_of k
-place_of_owner (owners.Instance k) = kept_by instances_of k
+place_of_owner owners.Free = sticks
+place_of_owner (owners.ScriptInit s) = pure (place s None)
+place_of_owner (owners.ScriptMethod s) = pure (place s (Some (scope_id s)))
+place_of_owner (owners.ClassInit k) = place_kept_by statics_of k
+place_of_owner (owners.Static k) = place_kept_by statics_of k
+place_of_owner (owners.Iinit k) = place_kept_by instances_of k
+place_of_owner (owners.Instance k) = place_kept_by instances_of k

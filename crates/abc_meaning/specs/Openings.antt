@@ -13,6 +13,6 @@ abbrev pub setting : LinkedFile → List Formula → Setting
 setting l formulas = record { linked = l; formulas = formulas }
 
 -- a limit is too small, or there is no memory
-abbrev pub IsRefused : Setting → Limits → OpenError → Type 0
-IsRefused p limits errors.NoMemory = Unit {0}
-IsRefused p limits (errors.TooSmall which) = too_small (first_world p limits).heap ≡ Some which
+abbrev pub IsOpeningRefused : Setting → Limits → OpenError → Type 0
+IsOpeningRefused p limits errors.NoMemory = Unit {0}
+IsOpeningRefused p limits (errors.TooSmall which) = too_small (first_world p limits).heap ≡ Some which

@@ -1,6 +1,6 @@
 -- What a sound state gives to the code that does its next step.
 use Rattle.std.specs.Prelude.{◌≡◌, ◌≢◌, ◌+◌, ◌<◌, ◌^◌, length, slice_get, Some}
-use Rattle.abc_objects.specs.Stands.{AreEntries, Each, IsScope}
+use Rattle.abc_objects.specs.Stands.{AreEntries, EachAt, IsScope}
 use Rattle.abc_objects.specs.Values.{Exists}
 use Rattle.abc_verify_typing.specs.Instructions.{opcode}
 use Rattle.abc_frames.specs.Frame.{Frame}
@@ -12,9 +12,9 @@ use Rattle.abc_meaning.specs.World.{Sticks, Stopped, World}
 use Rattle.abc_meaning.specs.Step.{runs}
 
 -- what the newest frame names is there
-pub record IsThere (p : Setting) (w : World) (f : Frame) : Type 0 where
-  pub stack : Each (Exists p.linked w.heap) f.stack
-  pub locals : Each (Exists p.linked w.heap) f.locals
+pub record IsFrameThere (p : Setting) (w : World) (f : Frame) : Type 0 where
+  pub stack : EachAt (Exists p.linked w.heap) f.stack
+  pub locals : EachAt (Exists p.linked w.heap) f.locals
   pub scopes : AreEntries w.heap f.scopes
   pub saved : IsScope w.heap f.saved
   pub home : f.home < length p.linked.file.scripts
@@ -31,6 +31,6 @@ pub record HasInstruction (p : Setting) (f : Frame) : Type 0 where
 
 -- and no test of what it does fails
 pub record IsRunning (p : Setting) (w : World) (f : Frame) : Type 0 where
-  pub there : IsThere p w f
+  pub there : IsFrameThere p w f
   pub instruction : HasInstruction p f
   pub free : (n : World) → runs p f (routine_of p f.method) w ≢ Stopped n Sticks

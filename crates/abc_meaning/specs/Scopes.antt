@@ -9,29 +9,29 @@ use Rattle.abc_objects.specs.Searches.{found_in_scopes}
 use Rattle.abc_objects.specs.declared.found.ScopeFound.{ScopeFound}
 use Rattle.abc_objects.specs.declared.found.ScopeFound.TheVariants.{Object, Start, Missing}
 use Rattle.abc_objects.specs.declared.name.Name.{Name}
-use Rattle.abc_meaning.specs.Entering.{global, starts}
+use Rattle.abc_meaning.specs.Entering.{global, starts_script}
 use Rattle.abc_meaning.specs.Members.{reads}
-use Rattle.abc_meaning.specs.World.{Run, World, done, see, throws, ◌>>=◌}
+use Rattle.abc_meaning.specs.World.{Run, World, pure, see, throws, ◌>>=◌}
 use Rattle.abc_frames.specs.declared.records.Wait.TheVariants.{Again}
-use Rattle.abc_meaning.specs.At.{Above, Act, At, Doing, Goes, gives_came, goes, pushed, waiting}
+use Rattle.abc_meaning.specs.At.{Above, Act, ActCase, Doing, Goes, gives_came, goes, after_pushes, waiting_frame}
 use Rattle.abc_meaning.specs.Names.{name_of}
 
-abbrev pub find_in_scopes : At → Name → World → ScopeFound
+abbrev pub find_in_scopes : ActCase → Name → World → ScopeFound
 find_in_scopes a name w = found_in_scopes a.setting.linked w.heap a.frame.scopes a.frame.saved w.started name
 
-abbrev pub found_in : At → ScopeFound → (ObjId → Run Act) → Run Act → Run Act
+abbrev pub found_in : ActCase → ScopeFound → (ObjId → Run Act) → Run Act → Run Act
 found_in a (Object o) f otherwise = f o
-found_in a (Start s) f otherwise = starts a.setting s >>= λ g. done (Goes (Above g (waiting Again a.frame)))
+found_in a (Start s) f otherwise = starts_script a.setting s >>= λ g. pure (Goes (Above g (waiting_frame Again a.frame)))
 found_in a Missing f otherwise = otherwise
 
-abbrev pub finds : (At → Name → ObjId → Run Act) → Doing → Doing
+abbrev pub finds : (ActCase → Name → ObjId → Run Act) → Doing → Doing
 finds f otherwise a = do
   name ← name_of a
   found ← see (find_in_scopes a name)
   found_in a found (f a name) (otherwise a)
 
-abbrev pub pushes : At → Value → Run Act
-pushes a v = goes (pushed (v ∷ []) a.rest)
+abbrev pub pushes : ActCase → Value → Run Act
+pushes a v = goes (after_pushes (v ∷ []) a.rest)
 
 -- findpropstrict, findproperty, getlex
 

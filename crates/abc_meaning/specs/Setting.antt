@@ -17,7 +17,7 @@ use Rattle.abc_link_names.specs.Types.{type_in}
 use Rattle.abc_link_names.specs.declared.part.Part.{Part}
 use Rattle.abc_link_names.specs.declared.part.Part.TheVariants as parts
 use Rattle.abc_link_names.specs.declared.types.Ty.{Ty}
-use Rattle.abc_link_names.specs.Starts.{raw_of}
+use Rattle.abc_link_names.specs.Starts.{raw_of_option}
 use Rattle.abc_link_names.specs.declared.start.Raw.{Raw}
 use Rattle.abc_link_names.specs.declared.start.Raw.TheVariants as raws
 use Rattle.abc_objects.specs.declared.name.Name.{Name}
@@ -46,12 +46,12 @@ pub data NameForm : Type 0 where
 abbrev pub string_of : Setting → ℕ → Span
 string_of p i = string_span p.linked.file.strings i
 
-abbrev pub spaces_of : ℕ → Spaces
-spaces_of ns = if nat_eq ns 0 then spaces.Any else spaces.One ns
+abbrev pub spaces_for : ℕ → Spaces
+spaces_for ns = if nat_eq ns 0 then spaces.Any else spaces.One ns
 
 -- attribute names and names of types with parameters are never run
 abbrev pub name_form : Setting → Multiname → Option NameForm
-name_form p (names.QName false ns i) = Some (Whole (record { spaces = spaces_of ns; text = string_of p i }))
+name_form p (names.QName false ns i) = Some (Whole (record { spaces = spaces_for ns; text = string_of p i }))
 name_form p (names.Multi false i set) = Some (Whole (record { spaces = spaces.Set set; text = string_of p i }))
 name_form p (names.Rt false i) = Some (NoSpace (string_of p i))
 name_form p (names.MultiL false set) = Some (NoText (spaces.Set set))
@@ -76,26 +76,26 @@ abbrev pub size_of : Routine → ℕ
 size_of r = r.local_count + r.max_stack + r.scope_size
 
 -- those that are missing have options, and there are no more than parameters where no array takes them
-abbrev pub may_take : Method → ℕ → Bool
-may_take m n = nat_le (length m.params - length m.options) n && (nat_le n (length m.params) || takes_array m.flags)
+abbrev pub may_take_arguments : Method → ℕ → Bool
+may_take_arguments m n = nat_le (length m.params - length m.options) n && (nat_le n (length m.params) || takes_array m.flags)
 
 -- an option for each parameter; the last ones have some
 abbrev pub options_of : Method → List (Option OptionValue)
 options_of m = replicate (length m.params - length m.options) None ++ map Some m.options
 
 -- the value of an option; a double is none
-abbrev pub raw_value : Setting → Raw → Option Value
-raw_value p raws.Undefined = Some values.Undefined
-raw_value p raws.Null = Some values.Null
-raw_value p (raws.Int z) = Some (values.Num z)
-raw_value p (raws.UInt n) = Some (values.Num (pos n))
-raw_value p raws.Double = None
-raw_value p (raws.Bool b) = Some (values.Bool b)
-raw_value p (raws.Text i) = Some (values.Text (string_of p i))
-raw_value p (raws.Space i) = Some (values.Space i)
+abbrev pub value_of_raw : Setting → Raw → Option Value
+value_of_raw p raws.Undefined = Some values.Undefined
+value_of_raw p raws.Null = Some values.Null
+value_of_raw p (raws.Int z) = Some (values.Num z)
+value_of_raw p (raws.UInt n) = Some (values.Num (pos n))
+value_of_raw p raws.Double = None
+value_of_raw p (raws.Bool b) = Some (values.Bool b)
+value_of_raw p (raws.Text i) = Some (values.Text (string_of p i))
+value_of_raw p (raws.Space i) = Some (values.Space i)
 
 abbrev pub value_of_option : Setting → OptionValue → Option Value
-value_of_option p o = raw_value p (raw_of p.linked.file o.kind o.value)
+value_of_option p o = value_of_raw p (raw_of_option p.linked.file o.kind o.value)
 
 -- ---- classes and layouts
 

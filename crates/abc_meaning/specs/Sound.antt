@@ -11,7 +11,7 @@ use Rattle.abc_heap_store.specs.declared.records.What.{What}
 use Rattle.abc_heap_store.specs.declared.records.What.TheVariants as whats
 use Rattle.abc_objects.specs.Opening.{formula_names}
 use Rattle.abc_objects.specs.Stands.{IsScope, StandsOver}
-use Rattle.abc_objects.specs.Values.{Exists, Holds}
+use Rattle.abc_objects.specs.Values.{Exists, IsValueOf}
 use Rattle.abc_link_names.specs.Kinds.{IsAtMost}
 use Rattle.abc_link_names.specs.Linked.{LinkedFile, layout_of}
 use Rattle.abc_link_names.specs.Numbering.{part_at}
@@ -35,7 +35,7 @@ use Rattle.abc_meaning.specs.Setting.{Setting, routine_of}
 use Rattle.abc_meaning.specs.World.{World}
 use Rattle.abc_frames.specs.declared.records.Wait.{Wait}
 use Rattle.abc_frames.specs.declared.records.Wait.TheVariants as waits
-use Rattle.abc_meaning.specs.At.{next, pushed}
+use Rattle.abc_meaning.specs.At.{next_frame, after_pushes}
 use Rattle.abc_meaning.specs.Step.{size_of_frames}
 use Rattle.abc_meaning.specs.Throwing.{Ends, Machine, Stepped, Steps, Stuck}
 
@@ -44,7 +44,7 @@ use Rattle.abc_meaning.specs.Throwing.{Ends, Machine, Stepped, Steps, Stuck}
 -- what a value names exists, and it is of a kind
 pub record IsOfKind (l : LinkedFile) (h : Heap) (k : Kind) (v : Value) : Type 0 where
   pub exists : Exists l h v
-  pub kind : Holds l h k v
+  pub kind : IsValueOf l h k v
 
 -- ---- objects
 
@@ -68,17 +68,17 @@ WhatSound p h x (whats.ClassObject k home statics instances) = x ≡ (layout_of 
 WhatSound p h x other = Unit {0}
 
 -- the class objects of a class and of all its bases in the file
-abbrev pub IsMade : Heap → ℕ → Type 0
-IsMade h k = (o : ObjId) × (slice_get h.classes k ≡ Some (Some o))
+abbrev pub HasClassMade : Heap → ℕ → Type 0
+HasClassMade h k = (o : ObjId) × (slice_get h.classes k ≡ Some (Some o))
 
-pub record AreMade (l : LinkedFile) (h : Heap) (k : ℕ) : Type 0 where
-  pub own : IsMade h k
-  pub bases : (b : ℕ) → Leads (base_graph l.file) k b → IsMade h b
+pub record AreClassesMade (l : LinkedFile) (h : Heap) (k : ℕ) : Type 0 where
+  pub own : HasClassMade h k
+  pub bases : (b : ℕ) → Leads (base_graph l.file) k b → HasClassMade h b
 
 -- an instance and a class object need these, and an interface has no instance
 abbrev pub PartSound : LinkedFile → Heap → Part → Type 0
-PartSound l h (parts.Instance k) = (is_interface l.file k ≡ false) × AreMade l h k
-PartSound l h (parts.ClassObject k) = AreMade l h k
+PartSound l h (parts.Instance k) = (is_interface l.file k ≡ false) × AreClassesMade l h k
+PartSound l h (parts.ClassObject k) = AreClassesMade l h k
 PartSound l h other = Unit {0}
 
 -- a layout is the first of its part
@@ -94,7 +94,7 @@ pub record ObjectSound (p : Setting) (h : Heap) (ob : Object) : Type 0 where
 -- ---- the heap
 
 -- objects, cells and bytes of texts are within their limits, and cells can be counted by 32 bits
-pub record IsWithin (h : Heap) : Type 0 where
+pub record IsHeapWithin (h : Heap) : Type 0 where
   pub objects : length h.objects ≤ h.limits.objects
   pub cells : cells_used h ≤ h.limits.cells
   pub text : length h.made ≤ h.limits.text
@@ -106,7 +106,7 @@ pub record WorldSound (p : Setting) (w : World) : Type 0 where
   pub objects : (o : ℕ) (ob : Object) → slice_get w.heap.objects o ≡ Some ob → ObjectSound p w.heap ob
   pub formulas : w.heap.formulas ≡ formula_names p.formulas
   pub scripts : length w.started ≡ length p.linked.file.scripts
-  pub within : IsWithin w.heap
+  pub within : IsHeapWithin w.heap
 
 -- ---- frames
 
@@ -125,37 +125,37 @@ pub record IsOfState (l : LinkedFile) (h : Heap) (s : State) (f : Frame) : Type 
   pub locals : Each2 (IsOfKind l h) s.locals f.locals
 
 -- what a return takes from the stack of a frame, and what it puts on it
-abbrev pub taken_by : Wait → ℕ
-taken_by (waits.New n) = n
-taken_by wait = 0
+abbrev pub taken_by_return : Wait → ℕ
+taken_by_return (waits.New n) = n
+taken_by_return wait = 0
 
-abbrev pub put_by : Wait → ℕ
-put_by waits.Push = 1
-put_by (waits.Keep v) = 1
-put_by (waits.New n) = 1
-put_by wait = 0
+abbrev pub put_by_return : Wait → ℕ
+put_by_return waits.Push = 1
+put_by_return (waits.Keep v) = 1
+put_by_return (waits.New n) = 1
+put_by_return wait = 0
 
 -- a frame's method has a body, to whose sizes it keeps, also at a return
-pub record Stands (p : Setting) (h : Heap) (f : Frame) : Type 0 where
+pub record FrameStands (p : Setting) (h : Heap) (f : Frame) : Type 0 where
   pub routine : Routine
   pub body : routine_of p f.method ≡ Some routine
   pub home : f.home < length p.linked.file.scripts
   pub saved : IsScope h f.saved
   pub locals : length f.locals ≡ routine.local_count
-  pub stack : length f.stack + put_by f.wait ≤ routine.max_stack + taken_by f.wait
+  pub stack : length f.stack + put_by_return f.wait ≤ routine.max_stack + taken_by_return f.wait
   pub scopes : length f.scopes ≤ routine.scope_size
 
 -- it is of the kinds of its place
-pub record IsTyped (p : Setting) (typings : Typings) (h : Heap) (f : Frame) : Type 0 where
+pub record IsFrameTyped (p : Setting) (typings : Typings) (h : Heap) (f : Frame) : Type 0 where
   pub state : State
   pub typed : typings f.method f.place ≡ Some state
   pub is : IsOfState p.linked h state f
 
 -- the newest frame, which waits for nothing
 pub record FrameSound (p : Setting) (typings : Typings) (h : Heap) (f : Frame) : Type 0 where
-  pub stands : Stands p h f
+  pub stands : FrameStands p h f
   pub idle : f.wait ≡ waits.Not
-  pub typed : IsTyped p typings h f
+  pub typed : IsFrameTyped p typings h f
 
 -- with any value pushed it is of the kinds of the next place
 pub record IsTypedPushed (p : Setting) (typings : Typings) (h : Heap) (f : Frame) : Type 0 where
@@ -176,9 +176,9 @@ pub record KeepsArguments (p : Setting) (typings : Typings) (h : Heap) (f : Fram
 -- with what it waits for, a waiting frame is of the kinds of the next place; one that executes its instruction again, of its place
 abbrev pub WaitSound : Setting → Typings → Heap → Frame → Wait → Type 0
 WaitSound p typings h f waits.Push = IsTypedPushed p typings h f
-WaitSound p typings h f waits.Drop = IsTyped p typings h (next f)
-WaitSound p typings h f (waits.Keep v) = IsTyped p typings h (pushed (v ∷ []) f)
-WaitSound p typings h f waits.Again = IsTyped p typings h f
+WaitSound p typings h f waits.Drop = IsFrameTyped p typings h (next_frame f)
+WaitSound p typings h f (waits.Keep v) = IsFrameTyped p typings h (after_pushes (v ∷ []) f)
+WaitSound p typings h f waits.Again = IsFrameTyped p typings h f
 WaitSound p typings h f (waits.New n) = KeepsArguments p typings h f n
 WaitSound p typings h f waits.Not = ⊥
 
@@ -189,7 +189,7 @@ pub record IsCatching (p : Setting) (typings : Typings) (h : Heap) (f : Frame) :
   pub locals : Each2 (IsOfKind p.linked h) state.locals f.locals
 
 pub record WaitingSound (p : Setting) (typings : Typings) (h : Heap) (f : Frame) : Type 0 where
-  pub stands : Stands p h f
+  pub stands : FrameStands p h f
   pub catches : IsCatching p typings h f
   pub waits : WaitSound p typings h f f.wait
 

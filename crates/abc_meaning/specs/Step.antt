@@ -8,38 +8,38 @@ use Rattle.abc_verify_typing.specs.Rows.{Shape, row_at}
 use Rattle.abc_file_types.specs.declared.code.Instr.{Instr}
 use Rattle.abc_verify_typing.specs.Effects.{Here}
 use Rattle.abc_verify_typing.specs.Routines.{Routine}
-use Rattle.abc_meaning.specs.Entering.{starts}
+use Rattle.abc_meaning.specs.Entering.{starts_script}
 use Rattle.abc_frames.specs.Frame.{Frame}
 use Rattle.abc_meaning.specs.Making.{new}
 use Rattle.abc_meaning.specs.Setting.{Setting, routine_of, size_of}
-use Rattle.abc_meaning.specs.World.{Outcome, Run, Stopped, Went, World, done, room, see, stuck, ◌>>=◌, ◌>>◌}
+use Rattle.abc_meaning.specs.World.{Outcome, Run, Stopped, Went, World, pure, room, see, sticks, ◌>>=◌, ◌>>◌}
 use Rattle.abc_frames.specs.declared.records.Wait.{Wait}
 use Rattle.abc_frames.specs.declared.records.Wait.TheVariants as waits
-use Rattle.abc_meaning.specs.At.{Above, Act, Doing, Goes, Returns, Stays, Top, next, pushed, pushing, waiting}
+use Rattle.abc_meaning.specs.At.{Above, Act, Doing, Goes, Returns, Stays, Top, next_frame, after_pushes, pushing, waiting_frame}
 use Rattle.abc_meaning.specs.Table.{act_of}
 use Rattle.abc_meaning.specs.Tests.{at_frame, can_run}
 use Rattle.abc_meaning.specs.Throwing.{Done, Ends, Machine, Stepped, goes_on, last_script, stops}
 
 -- ---- an instruction: its row, the tests, and then its act
 
-abbrev pub tested : Bool → Run Act → Run Act
-tested true m = m
-tested false m = stuck
+abbrev pub or_stuck : Bool → Run Act → Run Act
+or_stuck true m = m
+or_stuck false m = sticks
 
 abbrev pub does : Setting → Here → Frame → Option Doing → Run Act
-does p h f None = stuck
-does p h f (Some act) = see (can_run p h f) >>= λ b. tested b (act (at_frame p h f))
+does p h f None = sticks
+does p h f (Some act) = see (can_run p h f) >>= λ b. or_stuck b (act (at_frame p h f))
 
 abbrev pub does_row : Setting → Routine → Frame → Instr → Option Shape → Run Act
-does_row p r f i None = stuck
+does_row p r f i None = sticks
 does_row p r f i (Some row) = does p (record { file = p.linked; method = r; place = f.place; instr = i; row = row }) f (act_of (opcode i))
 
 abbrev pub does_instr : Setting → Routine → Frame → Option Instr → Run Act
-does_instr p r f None = stuck
+does_instr p r f None = sticks
 does_instr p r f (Some i) = does_row p r f i (row_at (opcode i))
 
 abbrev pub runs : Setting → Frame → Option Routine → Run Act
-runs p f None = stuck
+runs p f None = sticks
 runs p f (Some r) = does_instr p r f (slice_get r.code f.place)
 
 -- ---- the room of frames: one for each that lives, and the values that it may keep
@@ -73,36 +73,36 @@ settles p w fs (Above g f) = puts p w g (f ∷ fs)
 -- ---- a return, by the way in which the frame below waits
 
 abbrev pub resumes : Setting → Frame → Wait → Value → Run Top
-resumes p f waits.Push v = done (Stays (pushed (v ∷ []) f))
-resumes p f waits.Drop v = done (Stays (next f))
-resumes p f (waits.Keep kept) v = done (Stays (pushed (kept ∷ []) f))
-resumes p f waits.Again v = done (Stays f)
-resumes p f (waits.New n) v = new p v (reverse (take n f.stack)) >>= λ c. done (pushing (record f { stack = drop n f.stack }) c)
-resumes p f waits.Not v = stuck
+resumes p f waits.Push v = pure (Stays (after_pushes (v ∷ []) f))
+resumes p f waits.Drop v = pure (Stays (next_frame f))
+resumes p f (waits.Keep kept) v = pure (Stays (after_pushes (kept ∷ []) f))
+resumes p f waits.Again v = pure (Stays f)
+resumes p f (waits.New n) v = new p v (reverse (take n f.stack)) >>= λ c. pure (pushing (record f { stack = drop n f.stack }) c)
+resumes p f waits.Not v = sticks
 
-abbrev pub resumed : Setting → Frame → List Frame → Outcome Top → Stepped
-resumed p f fs (Went w top) = settles p w fs top
-resumed p f fs (Stopped w why) = stops p w (f ∷ fs) why
+abbrev pub after_resume : Setting → Frame → List Frame → Outcome Top → Stepped
+after_resume p f fs (Went w top) = settles p w fs top
+after_resume p f fs (Stopped w why) = stops p w (f ∷ fs) why
 
 -- the run is done when the last frame returns
 abbrev pub gives_back : Setting → World → Value → List Frame → Stepped
 gives_back p w v [] = Ends w Done
-gives_back p w v (f ∷ fs) = resumed p f fs (resumes p (waiting waits.Not f) f.wait v w)
+gives_back p w v (f ∷ fs) = after_resume p f fs (resumes p (waiting_frame waits.Not f) f.wait v w)
 
 -- ---- what an instruction comes to
 
-abbrev pub acted : Setting → Frame → List Frame → Outcome Act → Stepped
-acted p f fs (Went w (Goes top)) = settles p w fs top
-acted p f fs (Went w (Returns v)) = gives_back p w v fs
-acted p f fs (Stopped w why) = stops p w (f ∷ fs) why
+abbrev pub after_act : Setting → Frame → List Frame → Outcome Act → Stepped
+after_act p f fs (Went w (Goes top)) = settles p w fs top
+after_act p f fs (Went w (Returns v)) = gives_back p w v fs
+after_act p f fs (Stopped w why) = stops p w (f ∷ fs) why
 
-abbrev pub started : Setting → Outcome Frame → Stepped
-started p (Went w f) = puts p w f []
-started p (Stopped w why) = stops p w [] why
+abbrev pub after_start : Setting → Outcome Frame → Stepped
+after_start p (Went w f) = puts p w f []
+after_start p (Stopped w why) = stops p w [] why
 
 abbrev pub step_of : Setting → World → List Frame → Stepped
-step_of p w [] = started p (starts p (last_script p) w)
-step_of p w (f ∷ fs) = acted p f fs (runs p f (routine_of p f.method) w)
+step_of p w [] = after_start p (starts_script p (last_script p) w)
+step_of p w (f ∷ fs) = after_act p f fs (runs p f (routine_of p f.method) w)
 
 abbrev pub step : Setting → Machine → Stepped
 step p q = step_of p q.world q.frames

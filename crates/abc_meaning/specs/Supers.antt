@@ -21,12 +21,12 @@ use Rattle.abc_objects.specs.declared.found.Want.{Want}
 use Rattle.abc_objects.specs.declared.found.Want.TheVariants.{Read, Write}
 use Rattle.abc_objects.specs.declared.name.Name.{Name}
 use Rattle.abc_verify_typing.specs.Rules.{super_layout}
-use Rattle.abc_meaning.specs.Calling.{Came, entered, got}
+use Rattle.abc_meaning.specs.Calling.{Came, calls_frame, got}
 use Rattle.abc_meaning.specs.Entering.{enters_owned}
 use Rattle.abc_meaning.specs.Making.{host_arguments, set_message}
 use Rattle.abc_meaning.specs.Members.{call_found, read_found, write_found}
-use Rattle.abc_meaning.specs.World.{Run, some, the, see, object, stuck, throws, ◌>>=◌, ◌>>◌}
-use Rattle.abc_meaning.specs.At.{At, one, two}
+use Rattle.abc_meaning.specs.World.{Run, some, the, see, object_named, sticks, throws, ◌>>=◌, ◌>>◌}
+use Rattle.abc_meaning.specs.At.{ActCase, one, two}
 use Rattle.abc_meaning.specs.Names.{name_of}
 
 -- what is missing is a ReferenceError, whether the object is dynamic or not
@@ -34,9 +34,9 @@ abbrev pub strict : Found → Found
 strict Missing = WrongSide
 strict found = found
 
-abbrev pub super_found : At → ObjId → Name → Want → Run Found
+abbrev pub super_found : ActCase → ObjId → Name → Want → Run Found
 super_found a o name want = do
-  ob ← the (object o)
+  ob ← the (object_named o)
   layout ← some (super_layout a.here.row.site a.here.method.home)
   see (λ w. strict (declared_found a.setting.linked w.heap ob.layout (above a.setting.linked layout.0) name want))
 
@@ -44,30 +44,30 @@ super_found a o name want = do
 abbrev pub on_receiver : {X : Type 0} → Value → (ObjId → Run X) → Run X
 on_receiver (Obj o) f = f o
 on_receiver Null f = throws hosts.TypeError
-on_receiver v f = stuck
+on_receiver v f = sticks
 
-abbrev pub on_super : At → Value → Want → (ObjId → Name → Found → Run Came) → Run Came
+abbrev pub on_super : ActCase → Value → Want → (ObjId → Name → Found → Run Came) → Run Came
 on_super a v want f = name_of a >>= λ name. on_receiver v (λ o. super_found a o name want >>= f o name)
 
-abbrev pub reads_super : At → Run Came
+abbrev pub reads_super : ActCase → Run Came
 reads_super a = one a λ v. on_super a v Read (λ o name found. read_found a.setting found (Obj o))
 
-abbrev pub writes_super : At → Run Came
+abbrev pub writes_super : ActCase → Run Came
 writes_super a = two a λ r v. on_super a r Write (λ o name found. write_found a.setting o name v false found)
 
-abbrev pub calls_super : At → Run Came
+abbrev pub calls_super : ActCase → Run Came
 calls_super a = one a λ v. on_super a v Read (λ o name found. call_found a.setting found (Obj o) (Obj o) a.args)
 
 -- ---- the maker of the base is run on the object; a class of the host has none, and takes a message
 
-abbrev pub runs_base : At → ObjId → Option Named → Run Came
-runs_base a o (Some (named.Class b)) = enters_owned a.setting (instance_at a.setting.linked.file b).iinit (Obj o) a.args >>= entered
+abbrev pub runs_base : ActCase → ObjId → Option Named → Run Came
+runs_base a o (Some (named.Class b)) = enters_owned a.setting (instance_at a.setting.linked.file b).iinit (Obj o) a.args >>= calls_frame
 runs_base a o (Some (named.Host c)) = host_arguments a.setting c a.args >>= λ message. set_message a.setting o message >> got Undefined
-runs_base a o other = stuck
+runs_base a o other = sticks
 
-abbrev pub base_of_maker : At → Owner → Option Named
+abbrev pub base_of_maker : ActCase → Owner → Option Named
 base_of_maker a (owners.Iinit k) = base_named a.setting.linked.file k
 base_of_maker a other = None
 
-abbrev pub constructs_super : At → Run Came
+abbrev pub constructs_super : ActCase → Run Came
 constructs_super a = one a λ v. on_receiver v (λ o. runs_base a o (base_of_maker a (owner_of a.setting.linked.file a.frame.method)))

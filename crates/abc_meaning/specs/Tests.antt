@@ -7,7 +7,7 @@ use Rattle.abc_heap_store.specs.Heap.{Object}
 use Rattle.abc_heap_store.specs.declared.records.ScopeEntry.{ScopeEntry}
 use Rattle.abc_link_names.specs.Slots.{slot_numbered}
 use Rattle.abc_link_names.specs.declared.part.LayoutId.{LayoutId}
-use Rattle.abc_verify_typing.specs.Instructions.{operand, second}
+use Rattle.abc_verify_typing.specs.Instructions.{operand, second_local}
 use Rattle.abc_verify_typing.specs.declared.row.Locals.{Locals}
 use Rattle.abc_verify_typing.specs.declared.row.Locals.TheVariants.{Untouched, Reads, Sets, Walks}
 use Rattle.abc_verify_typing.specs.declared.row.Need.{Need}
@@ -15,29 +15,29 @@ use Rattle.abc_verify_typing.specs.declared.row.Need.TheVariants as needed
 use Rattle.abc_verify_typing.specs.declared.row.Operand.{Operand}
 use Rattle.abc_verify_typing.specs.declared.row.Operand.TheVariants.{Unnamed, StringAt, IntAt, UintAt, DoubleAt, NamespaceAt, FunctionAt, ClassAt, HandlerAt, NameAt, PlainNameAt, TypeAt, TypeOrAny, ScopeAt}
 use Rattle.abc_file_types.specs.declared.code.Instr.{Instr}
-use Rattle.abc_verify_typing.specs.Effects.{Here, args, depth, name_at, needs, runtime}
+use Rattle.abc_verify_typing.specs.Effects.{Here, args, depth, multiname_at, needs, runtime}
 use Rattle.abc_verify_typing.specs.Rules.{has_form, has_locals, in_table, is_here, may_pop, may_push, reaches, super_layout}
 use Rattle.abc_frames.specs.Frame.{Frame}
 use Rattle.abc_meaning.specs.Setting.{Setting}
-use Rattle.abc_meaning.specs.World.{World, object}
-use Rattle.abc_meaning.specs.At.{At}
+use Rattle.abc_meaning.specs.World.{World, object_named}
+use Rattle.abc_meaning.specs.At.{ActCase}
 
 -- ---- how an instruction finds its values: its arguments on top, then the others, with the parts of the name among them
 
 abbrev pub parts_count : Here → ℕ
-parts_count h = length (runtime (name_at h.file (operand h.instr)))
+parts_count h = length (runtime (multiname_at h.file (operand h.instr)))
 
 abbrev pub values_of : List Need → ℕ → List Value → List Value
 values_of (needed.Runtime ∷ ns) n vs = values_of ns n (drop n vs)
 values_of (need ∷ ns) n (v ∷ vs) = v ∷ values_of ns n vs
 values_of ns n vs = []
 
-abbrev pub name_parts : List Need → ℕ → List Value → List Value
-name_parts (needed.Runtime ∷ ns) n vs = take n vs
-name_parts (need ∷ ns) n (v ∷ vs) = name_parts ns n vs
-name_parts ns n vs = []
+abbrev pub name_values : List Need → ℕ → List Value → List Value
+name_values (needed.Runtime ∷ ns) n vs = take n vs
+name_values (need ∷ ns) n (v ∷ vs) = name_values ns n vs
+name_values ns n vs = []
 
-abbrev pub at_frame : Setting → Here → Frame → At
+abbrev pub at_frame : Setting → Here → Frame → ActCase
 at_frame p h f =
     let below = drop (args h) f.stack in
     record {
@@ -47,7 +47,7 @@ at_frame p h f =
       rest = record f { stack = drop (depth h) f.stack };
       args = reverse (take (args h) f.stack);
       values = values_of h.row.takes (parts_count h) below;
-      parts = name_parts h.row.takes (parts_count h) below;
+      parts = name_values h.row.takes (parts_count h) below;
     }
 
 -- ---- tests of values
@@ -60,12 +60,12 @@ is_below p x (Some ob) = reaches p.linked ob.layout ob.layout x
 abbrev pub is_receiver : Setting → World → Option LayoutId → Value → Bool
 is_receiver p w None v = true
 is_receiver p w (Some x) Null = true
-is_receiver p w (Some x) (Obj o) = is_below p x.0 (object o w)
+is_receiver p w (Some x) (Obj o) = is_below p x.0 (object_named o w)
 is_receiver p w (Some x) v = false
 
-abbrev pub has_slot : Setting → ℕ → Option Object → Bool
-has_slot p n None = false
-has_slot p n (Some ob) = is_some (slot_numbered p.linked ob.layout n)
+abbrev pub has_slot_numbered : Setting → ℕ → Option Object → Bool
+has_slot_numbered p n None = false
+has_slot_numbered p n (Some ob) = is_some (slot_numbered p.linked ob.layout n)
 
 -- a runtime namespace is null or a namespace, an index a number, the receiver of a slot null or an object that has it
 abbrev pub meets : Setting → Here → World → Need → Value → Bool
@@ -75,7 +75,7 @@ meets p h w needed.Namespace v = false
 meets p h w needed.Index (Num n) = true
 meets p h w needed.Index v = false
 meets p h w needed.Slotted Null = true
-meets p h w needed.Slotted (Obj o) = has_slot p (operand h.instr) (object o w)
+meets p h w needed.Slotted (Obj o) = has_slot_numbered p (operand h.instr) (object_named o w)
 meets p h w needed.Slotted v = false
 meets p h w needed.Instance v = is_receiver p w (super_layout h.row.site h.method.home) v
 meets p h w needed.Value v = true
@@ -89,12 +89,12 @@ all_meet p h w (n ∷ ns) (v ∷ vs) = meets p h w n v && all_meet p h w ns vs
 
 -- ---- tests of the frame
 
-abbrev pub is_number : Option Value → Bool
-is_number (Some (Num n)) = true
-is_number v = false
+abbrev pub is_some_number : Option Value → Bool
+is_some_number (Some (Num n)) = true
+is_some_number v = false
 
 abbrev pub walks_number : Locals → Instr → List Value → Bool
-walks_number Walks i vs = is_number (slice_get vs (second i))
+walks_number Walks i vs = is_some_number (slice_get vs (second_local i))
 walks_number Untouched i vs = true
 walks_number Reads i vs = true
 walks_number (Sets source) i vs = true

@@ -22,7 +22,7 @@ use Rattle.abc_verify_typing.specs.Routines.{Routine}
 use Rattle.abc_frames.specs.Frame.{Frame}
 use Rattle.abc_meaning.specs.Objects.{new_of_host}
 use Rattle.abc_meaning.specs.Setting.{Setting, routine_of}
-use Rattle.abc_meaning.specs.Types.{is_of}
+use Rattle.abc_meaning.specs.Types.{is_of_type}
 use Rattle.abc_meaning.specs.World.{Errs, Faults, Fills, Outcome, Sticks, Stop, Stopped, Throws, Went, World}
 use Rattle.abc_frames.specs.declared.records.Wait.TheVariants as waits
 use Rattle.abc_meaning.specs.declared.thrown.Thrown.{Thrown}
@@ -74,7 +74,7 @@ thrown_as p w (Obj o) = thrown_part (part_at p.linked.parts (object_at w.heap.ob
 
 abbrev pub is_caught_as : Setting → World → Value → Option Ty → Bool
 is_caught_as p w v None = false
-is_caught_as p w v (Some t) = is_of p.linked w.heap t v
+is_caught_as p w v (Some t) = is_of_type p.linked w.heap t v
 
 abbrev pub catches : Setting → World → Value → ℕ → Handler → Bool
 catches p w v i h = nat_le h.from i && nat_lt i h.to && is_caught_as p w v (type_of p.linked h.exc_type)

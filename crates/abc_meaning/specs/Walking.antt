@@ -12,10 +12,10 @@ use Rattle.abc_ops.specs.Left.{text_made}
 use Rattle.abc_heap_values.specs.declared.values.Span.{Span}
 use Rattle.abc_objects.specs.Objects.{delegate_at}
 use Rattle.abc_base_graphs.specs.Ways.{way}
-use Rattle.abc_verify_typing.specs.Instructions.{local, second}
+use Rattle.abc_verify_typing.specs.Instructions.{local, second_local}
 use Rattle.abc_meaning.specs.Ops.{operates}
-use Rattle.abc_meaning.specs.World.{Run, World, done, some, see, object, ◌>>=◌}
-use Rattle.abc_meaning.specs.At.{Act, At, Doing, goes, pushed, with_local}
+use Rattle.abc_meaning.specs.World.{Run, World, pure, some, see, object_named, ◌>>=◌}
+use Rattle.abc_meaning.specs.At.{Act, ActCase, Doing, goes, after_pushes, frame_with_local}
 
 -- a position to go on from, which is none below 0
 abbrev pub position : Value → ℕ
@@ -23,9 +23,9 @@ position (Num n) = place_after n
 position other = 0
 
 -- the object that a value is
-abbrev pub walked : Value → World → Option Object
-walked (Obj o) w = object o w
-walked other w = None
+abbrev pub object_of : Value → World → Option Object
+object_of (Obj o) w = object_named o w
+object_of other w = None
 
 abbrev pub next_in : Option Object → ℕ → Option ℕ
 next_in None k = None
@@ -36,7 +36,7 @@ number_or_zero None = Num (pos 0)
 number_or_zero (Some k) = Num (pos k)
 
 abbrev pub has_next : Value → Value → World → Value
-has_next v i w = number_or_zero (next_in (walked v w) (position i))
+has_next v i w = number_or_zero (next_in (object_of v w) (position i))
 
 -- ---- names and values at positions
 
@@ -46,12 +46,12 @@ text_or_null (Some t) = Text t
 
 -- the text of an element's number is made, where there is such an element
 abbrev pub element_text : ℕ → Option Value → Run Value
-element_text k None = done Null
-element_text k (Some v) = operates (λ h. text_made h (decimal (k - 1))) >>= λ t. done (Text t)
+element_text k None = pure Null
+element_text k (Some v) = operates (λ h. text_made h (decimal (k - 1))) >>= λ t. pure (Text t)
 
-abbrev pub name_in : Option Object → ℕ → Run Value
-name_in None k = done Null
-name_in (Some ob) k = if is_array ob.what then element_text k (element_at ob.elements k) else done (text_or_null (the_name (at_position ob.properties k)))
+abbrev pub walked_name : Option Object → ℕ → Run Value
+walked_name None k = pure Null
+walked_name (Some ob) k = if is_array ob.what then element_text k (element_at ob.elements k) else pure (text_or_null (the_name (at_position ob.properties k)))
 
 abbrev pub value_or_undefined : Option Value → Value
 value_or_undefined None = Undefined
@@ -88,13 +88,13 @@ abbrev pub object_number : Value → Option ℕ
 object_number (Obj o) = Some o.0
 object_number other = None
 
-abbrev pub walks_to : At → Option Position → Run Act
-walks_to a None = goes (pushed (Truth false ∷ []) (with_local (second a.here.instr) (Num (pos 0)) (with_local (local a.here.instr) Null a.rest)))
-walks_to a (Some e) = goes (pushed (Truth true ∷ []) (with_local (second a.here.instr) (Num (pos e.position)) (with_local (local a.here.instr) (Obj (obj_id e.holder)) a.rest)))
+abbrev pub walks_to : ActCase → Option Position → Run Act
+walks_to a None = goes (after_pushes (Truth false ∷ []) (frame_with_local (second_local a.here.instr) (Num (pos 0)) (frame_with_local (local a.here.instr) Null a.rest)))
+walks_to a (Some e) = goes (after_pushes (Truth true ∷ []) (frame_with_local (second_local a.here.instr) (Num (pos e.position)) (frame_with_local (local a.here.instr) (Obj (obj_id e.holder)) a.rest)))
 
 abbrev pub has_next2 : Doing
 has_next2 a = do
   v ← some (slice_get a.frame.locals (local a.here.instr))
-  i ← some (slice_get a.frame.locals (second a.here.instr))
+  i ← some (slice_get a.frame.locals (second_local a.here.instr))
   e ← see (λ w. next_along (object_number v) (position i) w.heap)
   walks_to a e

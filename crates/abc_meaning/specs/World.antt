@@ -35,8 +35,8 @@ Run X = World → Outcome X
 -- ---- going on and stopping
 
 -- it goes on with x, and changes nothing
-abbrev pub done : {X : Type 0} → X → Run X
-done x w = Went w x
+abbrev pub pure : {X : Type 0} → X → Run X
+pure x w = Went w x
 
 abbrev pub stop : {X : Type 0} → Stop → Run X
 stop why w = Stopped w why
@@ -48,8 +48,8 @@ throws c = stop (Errs c)
 abbrev pub fails : {X : Type 0} → Fault → Run X
 fails fault = stop (Faults fault)
 
-abbrev pub stuck : {X : Type 0} → Run X
-stuck = stop Sticks
+abbrev pub sticks : {X : Type 0} → Run X
+sticks = stop Sticks
 
 abbrev pub and_then : {X Y : Type 0} → Outcome X → (X → Run Y) → Outcome Y
 and_then (Went w x) f = f x w
@@ -66,18 +66,18 @@ m >> n = m >>= λ x. n
 
 -- each in turn
 abbrev pub each_of : {X Y : Type 0} → (X → Run Y) → List X → Run (List Y)
-each_of f [] = done []
-each_of f (x ∷ xs) = f x >>= λ y. each_of f xs >>= λ ys. done (y ∷ ys)
+each_of f [] = pure []
+each_of f (x ∷ xs) = f x >>= λ y. each_of f xs >>= λ ys. pure (y ∷ ys)
 
 -- ---- tests: what is found has to be there
 
 abbrev pub some : {X : Type 0} → Option X → Run X
-some None = stuck
-some (Some x) = done x
+some None = sticks
+some (Some x) = pure x
 
 abbrev pub must : Bool → Run (Unit {0})
-must true = done tt
-must false = stuck
+must true = pure tt
+must false = sticks
 
 -- ---- the world as it is
 
@@ -87,8 +87,8 @@ see f w = Went w (f w)
 abbrev pub the : {X : Type 0} → (World → Option X) → Run X
 the f w = some (f w) w
 
-abbrev pub object : ObjId → World → Option Object
-object o w = slice_get w.heap.objects o.0
+abbrev pub object_named : ObjId → World → Option Object
+object_named o w = slice_get w.heap.objects o.0
 
 -- ---- changes
 
@@ -105,7 +105,7 @@ writes bytes w = Went (record w { wrote = w.wrote ++ bytes }) tt
 -- ---- room: so much more has to be within the limit; what is taken shows in the records
 
 abbrev pub room : Limit → ℕ → ℕ → ℕ → Run (Unit {0})
-room which used need limit = if nat_le (used + need) limit then done tt else stop (Fills which)
+room which used need limit = if nat_le (used + need) limit then pure tt else stop (Fills which)
 
 abbrev pub room_for_objects : ℕ → Run (Unit {0})
 room_for_objects need w = room Objects (length w.heap.objects) need w.heap.limits.objects w

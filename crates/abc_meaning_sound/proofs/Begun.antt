@@ -13,11 +13,11 @@ use Rattle.abc_link_names.specs.declared.named.Named.{Named}
 use Rattle.abc_link_names.specs.declared.named.Named.TheVariants as named
 use Rattle.abc_objects.specs.Stands.{StandsOver}
 use Rattle.abc_objects.specs.Starts.{StartExists, start_value, start_values}
-use Rattle.abc_objects.specs.Values.{Exists, Holds}
+use Rattle.abc_objects.specs.Values.{Exists, IsValueOf}
 use Rattle.abc_objects.specs.declared.fixed.FixedText.TheVariants as fixed
 use Rattle.abc_objects.proofs.Started.{part_has}
 use Rattle.abc_ops.proofs.Staying.{fixed_there, string_there}
-use Rattle.abc_link_names.specs.Linked.{IsLinkedFile, LinkedFile, base, layout_of}
+use Rattle.abc_link_names.specs.Linked.{IsLinkedFile, LinkedFile, base_layout, layout_of}
 use Rattle.abc_link_names.specs.Numbering.{part_at}
 use Rattle.abc_link_names.specs.Parts.{HasLayout}
 use Rattle.abc_link_names.specs.Slots.{handler_at, own_slots, slots_in, slots_of}
@@ -31,7 +31,7 @@ use Rattle.abc_link_names.specs.declared.types.SlotInfo.{SlotInfo}
 use Rattle.abc_link_names.specs.declared.types.Ty.TheVariants as types
 use Rattle.abc_link_names.proofs.Finding.{falling}
 use Rattle.abc_link_names.specs.Bases.{is_interface}
-use Rattle.abc_link_names.specs.Starts.{coerced, default_of, host_default, raw_of, start_of, to_any, to_boolean, to_class, to_host, to_int, to_namespace, to_number, to_object, to_text, to_uint, to_void}
+use Rattle.abc_link_names.specs.Starts.{start_as, default_of, host_default, raw_of_option, start_of, to_any, to_boolean, to_class, to_host, to_int, to_namespace, to_number, to_object, to_text, to_uint, to_void}
 use Rattle.abc_link_names.specs.ItemTypes.{is_body, is_no_slot, is_not_run, type_or_any}
 use Rattle.abc_link_names.specs.declared.items.ItemKind.{ItemKind}
 use Rattle.abc_link_names.specs.declared.items.ItemKind.TheVariants as items
@@ -62,7 +62,7 @@ each2_map R f (x ∷ xs) a = (a.0, each2_map R f xs a.1)
 module _ (l : LinkedFile) (h : Heap) where
   -- the value at which a slot starts is of a kind
   abbrev StartHolds : Kind → Start → Type 0
-  StartHolds k s = Holds l h k (start_value l.file.strings s)
+  StartHolds k s = IsValueOf l h k (start_value l.file.strings s)
 
   abbrev OrHolds : Kind → Option Start → Type 0
   OrHolds k None = Unit {0}
@@ -185,7 +185,7 @@ module _ (l : LinkedFile) (h : Heap) where
   host_holds hosts.ArgumentError r = class_holds (layout_of l (parts.Host hosts.ArgumentError)) r
   host_holds hosts.Array r = class_holds (layout_of l (parts.Host hosts.Array)) r
 
-  coerced_holds : (t : Named) (r : Raw) → OrHolds (kind_of_type l (type_in l t)) (coerced l.file t r)
+  coerced_holds : (t : Named) (r : Raw) → OrHolds (kind_of_type l (type_in l t)) (start_as l.file t r)
   coerced_holds named.Any r = any_holds r
   coerced_holds named.Void r = void_holds r
   coerced_holds (named.Host c) r = host_holds c r
@@ -223,7 +223,7 @@ module _ (l : LinkedFile) (h : Heap) where
 
   start_holds : (t : Named) (value : Option OptionValue) → OrHolds (kind_of_type l (type_in l t)) (start_of l.file t value)
   start_holds t None = default_holds t
-  start_holds t (Some o) = coerced_holds t (raw_of l.file o.kind o.value)
+  start_holds t (Some o) = coerced_holds t (raw_of_option l.file o.kind o.value)
 
   unwrapped : (k : Kind) (o : Option Start) → OrHolds k o → not (is_some o) ≡ false → StartHolds k (unwrap_or o starts.Undefined)
   unwrapped k None a e = absurd cc
@@ -278,10 +278,10 @@ module _ (l : LinkedFile) (h : Heap) where
     all_start (suc n) x b =
         let own = λ (y : ℕ). own_slots l (part_at l.parts y) in
         let f = falling l.file l.parts linked.numbering in
-        subst (Each SlotStarts) (sym (heritage_some (base l) own f x)) (Each-append SlotStarts (heritage (base l) own (base l x)) (own x) (go (λ y low. all_start n y (omega (arith, low, b))) (base l x) (λ y e. f.falls x y e)) (own_starts (part_at l.parts x) (part_has l x linked)))
+        subst (Each SlotStarts) (sym (heritage_some (base_layout l) own f x)) (Each-append SlotStarts (heritage (base_layout l) own (base_layout l x)) (own x) (go (λ y low. all_start n y (omega (arith, low, b))) (base_layout l x) (λ y e. f.falls x y e)) (own_starts (part_at l.parts x) (part_has l x linked)))
       where
-        go : ((y : ℕ) → y < x → Each SlotStarts (slots_of l y)) → (o : Option ℕ) → ((y : ℕ) → o ≡ Some y → y < x) → Each SlotStarts (heritage (base l) (λ (y : ℕ). own_slots l (part_at l.parts y)) o)
-        go more None g = subst (Each SlotStarts) (sym (heritage_none (base l) (λ (y : ℕ). own_slots l (part_at l.parts y)))) tt
+        go : ((y : ℕ) → y < x → Each SlotStarts (slots_of l y)) → (o : Option ℕ) → ((y : ℕ) → o ≡ Some y → y < x) → Each SlotStarts (heritage (base_layout l) (λ (y : ℕ). own_slots l (part_at l.parts y)) o)
+        go more None g = subst (Each SlotStarts) (sym (heritage_none (base_layout l) (λ (y : ℕ). own_slots l (part_at l.parts y)))) tt
         go more (Some y) g = more y (g y refl)
 
     start_there : StandsOver l h → (s : Start) → StartExists l s → Exists l h (start_value l.file.strings s)

@@ -5,7 +5,7 @@ use Rattle.abc_base.specs.declared.names.Fault.{Fault}
 use Rattle.abc_meaning_sound.proofs.Called.{call_begins}
 use Rattle.abc_meaning_sound.proofs.Exported.{owned_by_script}
 use Rattle.abc_meaning_sound.proofs.Left.{silent_sound}
-use Rattle.abc_meaning.specs.Calls.{EndsAs, Replied, begins_call, call_meaning, enters_call, entered_call, replies_for, returned, silent, stops_call, then_replies}
+use Rattle.abc_meaning.specs.Calls.{EndsAs, Replied, begins_call, call_meaning, enters_call, entered_call, replies_for, value_at_end, silent, stops_call, then_replies}
 use Rattle.abc_meaning.specs.Exports.{IsScriptMethod}
 use Rattle.abc_meaning_sound.specs.CallLaws.{CallsLeaveSound, RunsLeaveSound}
 use Rattle.abc_heap_values.specs.declared.values.Value.{Value}
@@ -13,7 +13,7 @@ use Rattle.abc_heap_values.specs.declared.values.Value.TheVariants.{Undefined}
 use Rattle.abc_link_names.specs.PartsByNumber.{script_at}
 use Rattle.abc_frames.specs.Frame.{Frame}
 use Rattle.abc_verify_typing.specs.Lists.{Each}
-use Rattle.abc_meaning.specs.ThrowLaws.{IsVerified}
+use Rattle.abc_meaning.specs.ThrowLaws.{IsVerifiedSetting}
 use Rattle.abc_meaning.specs.Meaning.{first_state}
 use Rattle.abc_meaning.specs.Sound.{AreTypings, IsSound, SteppedSound, Typings, WorldSound}
 use Rattle.abc_meaning.specs.Step.{puts, step}
@@ -29,7 +29,7 @@ use Rattle.abc_meaning_sound.proofs.Stopping.{TellsAt, puts_tells, stops_tells}
 same_end : (e f : End) → EndsAs e ≡ EndsAs f → e ≡ f
 same_end e f q = cc
 
-module _ (p : Setting) (types : Typings) (v : IsVerified p) (typed : AreTypings p types) (m i : ℕ) (fault : Fault) where
+module _ (p : Setting) (types : Typings) (v : IsVerifiedSetting p) (typed : AreTypings p types) (m i : ℕ) (fault : Fault) where
   -- it is told so only where a step ends so
   ended_tells : (x : Value) (w : World) (e : End) (go : Machine → Replied) → (then_replies x (Ends w e) go).reply ≡ EndsAs (Profile m i fault) → e ≡ Profile m i fault
   ended_tells x w Done go q = absurd cc
@@ -47,7 +47,7 @@ module _ (p : Setting) (types : Typings) (v : IsVerified p) (typed : AreTypings 
   replies_placed : (fuel : ℕ) (q : Machine) → IsSound p types q → (replies_for p fuel q).reply ≡ EndsAs (Profile m i fault) → IsInstruction p.linked.file m i
   replies_placed zero q s e = absurd cc
   replies_placed (suc fuel) q s e =
-      then_placed (returned p q.world q.frames) (step p q) (replies_for p fuel) (stays_sound p types q v typed s) (step_placed p types v typed m i fault q.world q.frames s.frames) (λ n h f. replies_placed fuel n h f) e
+      then_placed (value_at_end p q.world q.frames) (step p q) (replies_for p fuel) (stays_sound p types q v typed s) (step_placed p types v typed m i fault q.world q.frames s.frames) (λ n h f. replies_placed fuel n h f) e
 
   -- ---- the beginning
 

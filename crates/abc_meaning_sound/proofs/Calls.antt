@@ -35,15 +35,15 @@ use Rattle.abc_link_names.proofs.Tree.{below_self}
 use Rattle.abc_link_names.specs.Bases.{is_interface}
 use Rattle.abc_verify_typing.specs.Lists.{Each}
 use Rattle.abc_verify_typing.specs.Routines.{this_kind}
-use Rattle.abc_meaning.specs.Calling.{Came, calls, calls_formula, calls_what, got, in_range, line, number_in, only, this_of, trace}
+use Rattle.abc_meaning.specs.Calling.{Came, calls, calls_formula, calls_what, got, number_in_range, trace_line, number_of_argument, only_argument, this_of, trace}
 use Rattle.abc_meaning.specs.Making.{host_arguments, message_of, most_arguments, new, new_elements, new_instance, new_of_class, new_plain, new_what, prototype_in, set_message}
 use Rattle.abc_meaning.specs.Objects.{new_array, place}
 use Rattle.abc_meaning.specs.Ops.{coerces, converts}
 use Rattle.abc_meaning.specs.Setting.{Setting, method_of, type_of_class, type_of_host}
-use Rattle.abc_meaning.specs.World.{Errs, Faults, Run, World, and_then, each_of, object, throws}
-use Rattle.abc_meaning.specs.Sound.{AreMade, AreTypings, FunctionSound, IsBound, IsOfKind, ObjectSound, PartSound, Typings, WhatSound, WorldSound}
+use Rattle.abc_meaning.specs.World.{Errs, Faults, Run, World, and_then, each_of, object_named, throws}
+use Rattle.abc_meaning.specs.Sound.{AreClassesMade, AreTypings, FunctionSound, IsBound, IsOfKind, ObjectSound, PartSound, Typings, WhatSound, WorldSound}
 use Rattle.abc_meaning_sound.specs.Given.{FileGiven, HasBody, OpsGiven}
-use Rattle.abc_meaning_sound.specs.Keeping.{CameSound, Fares, Leaves}
+use Rattle.abc_meaning_sound.specs.Keeping.{CameSound, Fares, LeavesSound}
 use Rattle.abc_meaning_sound.proofs.Changed.{set_property_fares}
 use Rattle.abc_meaning_sound.proofs.Entered.{arguments_fares, enters_fares, framed_fares, global_kind}
 use Rattle.abc_meaning_sound.proofs.Faring.{done_fares, if_fares, some_then, stop_fares, then_fares, weaker, went_fares}
@@ -81,24 +81,24 @@ module _ (p : Setting) (file : FileGiven p) (ops : OpsGiven p) (typings : Typing
       then_fares p w _ _ _ _ (ops.convert w to v z e.0) (λ n x l hx.
       then_fares p n _ _ _ _ (each_fares n to vs l.sound (values_on p w.heap n.heap l.grows vs e.1)) (λ i xs l' u. done_fares p i (x ∷ xs) _ l'.sound tt))
 
-  written_leaves : (w : World) (bytes : List ℕ) → WorldSound p w → Leaves p w (record w { wrote = w.wrote ++ bytes })
+  written_leaves : (w : World) (bytes : List ℕ) → WorldSound p w → LeavesSound p w (record w { wrote = w.wrote ++ bytes })
   written_leaves w bytes z = record { sound = record { stands = z.stands; objects = z.objects; formulas = z.formulas; scripts = z.scripts; within = z.within }; grows = evolves_self w.heap }
 
   trace_fares : (w : World) (args : List Value) → WorldSound p w → Each (Exists p.linked w.heap) args → Fares p w (trace p args w) Comes
-  trace_fares w args z e = then_fares p w _ _ _ _ (each_fares w ConvertS args z e) (λ n texts l u. went_fares p n _ _ _ (written_leaves n (line p texts n) l.sound) tt)
+  trace_fares w args z e = then_fares p w _ _ _ _ (each_fares w ConvertS args z e) (λ n texts l u. went_fares p n _ _ _ (written_leaves n (trace_line p texts n) l.sound) tt)
 
   formula_fares : (w : World) (f : Formula) (args : List Value) → WorldSound p w → Each (Exists p.linked w.heap) args → Fares p w (calls_formula p f args w) Comes
   formula_fares w f args z e =
-      if_fares p w (nat_eq (length args) (length f.factors)) _ _ _ (λ q. then_fares p w _ _ _ _ (each_fares w ConvertD args z e) (λ n vs l u. go n (number_or_none (value_of f (map number_in vs))) (λ x h. number_there (value_of f (map number_in vs)) x h) l.sound)) (λ q. stop_fares p w (Errs hosts.ArgumentError) _ z tt)
+      if_fares p w (nat_eq (length args) (length f.factors)) _ _ _ (λ q. then_fares p w _ _ _ _ (each_fares w ConvertD args z e) (λ n vs l u. go n (number_or_none (value_of f (map number_of_argument vs))) (λ x h. number_there (value_of f (map number_of_argument vs)) x h) l.sound)) (λ q. stop_fares p w (Errs hosts.ArgumentError) _ z tt)
     where
-      go : (n : World) (o : Option ℤ) → ((x : ℤ) → o ≡ Some x → IsNumber x) → WorldSound p n → Fares p n (in_range o n) Comes
+      go : (n : World) (o : Option ℤ) → ((x : ℤ) → o ≡ Some x → IsNumber x) → WorldSound p n → Fares p n (number_in_range o n) Comes
       go n None h z = stop_fares p n (Faults faults.Range) _ z tt
       go n (Some x) h z = done_fares p n _ _ z (h x refl)
 
   coerced : (w : World) (t : Ty) (v : Value) → WorldSound p w → Exists p.linked w.heap v → Fares p w (and_then (coerces p t v w) got) Comes
   coerced w t v z e = then_fares p w _ _ _ _ (ops.coerce w t v z e) (λ n x l h. done_fares p n _ _ l.sound h.exists)
 
-  pub only_fares : (w : World) (args : List Value) (m : Value → Run Came) → WorldSound p w → Each (Exists p.linked w.heap) args → ((v : Value) → Exists p.linked w.heap v → Fares p w (m v w) Comes) → Fares p w (only args m w) Comes
+  pub only_fares : (w : World) (args : List Value) (m : Value → Run Came) → WorldSound p w → Each (Exists p.linked w.heap) args → ((v : Value) → Exists p.linked w.heap v → Fares p w (m v w) Comes) → Fares p w (only_argument args m w) Comes
   only_fares w [] m z e g = stop_fares p w (Errs hosts.ArgumentError) _ z tt
   only_fares w (v ∷ []) m z e g = g v e.0
   only_fares w (v ∷ u ∷ vs) m z e g = stop_fares p w (Errs hosts.ArgumentError) _ z tt
@@ -146,7 +146,7 @@ module _ (p : Setting) (file : FileGiven p) (ops : OpsGiven p) (typings : Typing
 
   -- whatever is called
   pub calls_fares : (w : World) (f receiver : Value) (args : List Value) → WorldSound p w → Exists p.linked w.heap f → Exists p.linked w.heap receiver → Each (Exists p.linked w.heap) args → Fares p w (calls p f receiver args w) Comes
-  calls_fares w (Obj o) receiver args z h e es = some_then p w (object o w) (object_at w.heap.objects o.0) _ _ (there w.heap.objects o.0 h) (what_fares w (object_at w.heap.objects o.0).layout receiver args z (object_at w.heap.objects o.0).what (object_sound w o z h).what (names_parts w o z h) e es)
+  calls_fares w (Obj o) receiver args z h e es = some_then p w (object_named o w) (object_at w.heap.objects o.0) _ _ (there w.heap.objects o.0 h) (what_fares w (object_at w.heap.objects o.0).layout receiver args z (object_at w.heap.objects o.0).what (object_sound w o z h).what (names_parts w o z h) e es)
   calls_fares w Undefined receiver args z h e es = stop_fares p w (Errs hosts.TypeError) _ z tt
   calls_fares w Null receiver args z h e es = stop_fares p w (Errs hosts.TypeError) _ z tt
   calls_fares w (Num n) receiver args z h e es = stop_fares p w (Errs hosts.TypeError) _ z tt
@@ -200,7 +200,7 @@ module _ (p : Setting) (file : FileGiven p) (ops : OpsGiven p) (typings : Typing
   elements_fares w (Num (negsuc n) ∷ v ∷ vs) z e = array_fares w (Num (negsuc n) ∷ v ∷ vs) z e
   elements_fares w (u ∷ v ∷ vs) z e = array_fares w (u ∷ v ∷ vs) z e
 
-  converted : (w : World) (args : List Value) (to : Conversion) → WorldSound p w → Each (Exists p.linked w.heap) args → Fares p w (only args (λ v w'. and_then (converts p to v w') got) w) Comes
+  converted : (w : World) (args : List Value) (to : Conversion) → WorldSound p w → Each (Exists p.linked w.heap) args → Fares p w (only_argument args (λ v w'. and_then (converts p to v w') got) w) Comes
   converted w args to z e = only_fares w args _ z e (λ v ev. then_fares p w _ _ _ _ (ops.convert w to v z ev) (λ n x l h. done_fares p n _ _ l.sound h.exists))
 
   of_class_fares : (w : World) (o : ObjId) (c : HostClass) (args : List Value) → WorldSound p w → Each (Exists p.linked w.heap) args → Fares p w (new_of_class p o c args w) Comes
@@ -220,7 +220,7 @@ module _ (p : Setting) (file : FileGiven p) (ops : OpsGiven p) (typings : Typing
   of_class_fares w o hosts.ArgumentError args z e = plain_fares w o hosts.ArgumentError args (λ q. cc) z e
 
   -- instances of a class that was made
-  instance_fresh : (h : Heap) (k : ℕ) (d : Option ObjId) → k < length p.linked.file.instances → is_interface p.linked.file k ≡ false → AreMade p.linked h k → Rattle.abc_objects.specs.Stands.IsObjectOrNone h d → IsFresh p file h (layout_of p.linked (parts.Instance k)).0 d whats.Plain
+  instance_fresh : (h : Heap) (k : ℕ) (d : Option ObjId) → k < length p.linked.file.instances → is_interface p.linked.file k ≡ false → AreClassesMade p.linked h k → Rattle.abc_objects.specs.Stands.IsObjectOrNone h d → IsFresh p file h (layout_of p.linked (parts.Instance k)).0 d whats.Plain
   instance_fresh h k d b ni made hd =
       let found = part_found p.linked file.linked (parts.Instance k) b in
       record {
@@ -234,7 +234,7 @@ module _ (p : Setting) (file : FileGiven p) (ops : OpsGiven p) (typings : Typing
         first_of = first_is p.linked (parts.Instance k) found.1;
       }
 
-  pub new_instance_fares : (w : World) (o : ObjId) (k home : ℕ) (instances : ScopeId) (args : List Value) → WorldSound p w → k < length p.linked.file.instances → is_interface p.linked.file k ≡ false → AreMade p.linked w.heap k → home < length p.linked.file.scripts → IsScope w.heap (Some instances) → Each (Exists p.linked w.heap) args → Fares p w (new_instance p o k home instances args w) Comes
+  pub new_instance_fares : (w : World) (o : ObjId) (k home : ℕ) (instances : ScopeId) (args : List Value) → WorldSound p w → k < length p.linked.file.instances → is_interface p.linked.file k ≡ false → AreClassesMade p.linked w.heap k → home < length p.linked.file.scripts → IsScope w.heap (Some instances) → Each (Exists p.linked w.heap) args → Fares p w (new_instance p o k home instances args w) Comes
   new_instance_fares w o k home instances args z b ni made hh hs es =
       let n = (instance_at p.linked.file k).iinit in
       let maker = file.iinits k b ni in
@@ -269,7 +269,7 @@ module _ (p : Setting) (file : FileGiven p) (ops : OpsGiven p) (typings : Typing
   what_new w o args z h whats.Array is es = stop_fares p w (Errs hosts.TypeError) _ z tt
 
   pub new_fares : (w : World) (v : Value) (args : List Value) → WorldSound p w → Exists p.linked w.heap v → Each (Exists p.linked w.heap) args → Fares p w (new p v args w) Comes
-  new_fares w (Obj o) args z h es = some_then p w (object o w) (object_at w.heap.objects o.0) _ _ (there w.heap.objects o.0 h) (what_new w o args z h (object_at w.heap.objects o.0).what refl es)
+  new_fares w (Obj o) args z h es = some_then p w (object_named o w) (object_at w.heap.objects o.0) _ _ (there w.heap.objects o.0 h) (what_new w o args z h (object_at w.heap.objects o.0).what refl es)
   new_fares w Undefined args z h es = stop_fares p w (Errs hosts.TypeError) _ z tt
   new_fares w Null args z h es = stop_fares p w (Errs hosts.TypeError) _ z tt
   new_fares w (Num n) args z h es = stop_fares p w (Errs hosts.TypeError) _ z tt

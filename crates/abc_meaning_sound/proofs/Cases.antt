@@ -14,11 +14,11 @@ use Rattle.abc_verify_typing.specs.declared.row.Scoping.TheVariants.{Stays as Sa
 use Rattle.abc_verify_typing.specs.declared.row.Source.{Source}
 use Rattle.abc_verify_typing.specs.declared.row.Source.TheVariants.{Fixed}
 use Rattle.abc_file_types.specs.declared.code.Instr.{Instr}
-use Rattle.abc_verify_typing.specs.Effects.{Here, kind_of, leads, locals_after, name_at, needs, taken}
+use Rattle.abc_verify_typing.specs.Effects.{Here, kind_of_source, leads, locals_after, multiname_at, needs, stack_below}
 use Rattle.abc_verify_typing.specs.Lists.{Each, Each2}
 use Rattle.abc_verify_typing.specs.Routines.{Routine}
 use Rattle.abc_verify_typing.specs.Rules.{all_suit, suits}
-use Rattle.abc_verify_typing.specs.Standing.{here}
+use Rattle.abc_verify_typing.specs.Standing.{here_with}
 use Rattle.abc_verify_typing.specs.Typing.{In}
 use Rattle.abc_verify_typing.specs.declared.rule.VerifyRule.{VerifyRule}
 use Rattle.abc_verify_typing.specs.declared.state.State.{State}
@@ -28,12 +28,12 @@ use Rattle.abc_meaning.specs.Calling.{Came}
 use Rattle.abc_frames.specs.Frame.{Frame}
 use Rattle.abc_meaning.specs.Setting.{Setting}
 use Rattle.abc_meaning.specs.World.{Run, World}
-use Rattle.abc_meaning.specs.At.{Act, At, Doing, drops_came, gives, gives_came, goes, jumps, next, nothing, one, two, with_local}
-use Rattle.abc_meaning.specs.Simple.{branches, first_of, sets_local}
+use Rattle.abc_meaning.specs.At.{Act, ActCase, Doing, drops_came, gives_pushed, gives_came, goes, jumps, next_frame, does_nothing, one, two, frame_with_local}
+use Rattle.abc_meaning.specs.Simple.{branch_where, first_target, sets_local}
 use Rattle.abc_meaning.specs.Sound.{AreTypings, IsOfKind, Typings}
 use Rattle.abc_meaning.specs.Tests.{at_frame, parts_count}
 use Rattle.abc_meaning_sound.specs.Given.{FileGiven, HasTarget, OpsGiven}
-use Rattle.abc_meaning_sound.specs.Keeping.{ActSound, CameSound, DoingSound, EntrySound, Fares, Leaves, Ready}
+use Rattle.abc_meaning_sound.specs.Keeping.{ActSound, CameSound, DoingSound, EntrySound, Fares, LeavesSound, Ready}
 use Rattle.abc_meaning_sound.proofs.Faring.{done_fares, then_fares}
 use Rattle.abc_meaning_sound.proofs.Shapes.{IsPlainRow, KeepsRow, args_exist, came_sound, dropped_sound, gives_sound, goes_to, locals_left, moves_to, nothing_sound, scopes_left, stack_left, unslotted, unslotted_left, unslotted_unfolded}
 use Rattle.abc_meaning_sound.proofs.Stepping.{entry_sound}
@@ -76,9 +76,9 @@ pub record Case (p : Setting) (typings : Typings) (op : ℕ) (row : Shape) : Typ
   pub is : opcode instr ≡ op
 
 abbrev pub here_of : {p : Setting} {typings : Typings} {op : ℕ} {row : Shape} → Case p typings op row → Here
-here_of {p} {typings} {op} {row} c = here p.linked c.routine c.frame.place c.instr row
+here_of {p} {typings} {op} {row} c = here_with p.linked c.routine c.frame.place c.instr row
 
-abbrev pub at_of : {p : Setting} {typings : Typings} {op : ℕ} {row : Shape} → Case p typings op row → At
+abbrev pub at_of : {p : Setting} {typings : Typings} {op : ℕ} {row : Shape} → Case p typings op row → ActCase
 at_of {p} {typings} {op} {row} c = at_frame p (here_of c) c.frame
 
 module _ (p : Setting) (file : FileGiven p) (ops : OpsGiven p) (typings : Typings) (typed : AreTypings p typings) where
@@ -90,7 +90,7 @@ module _ (p : Setting) (file : FileGiven p) (ops : OpsGiven p) (typings : Typing
 
   -- a value of the kind of a source
   abbrev pub OfSource : {op : ℕ} {row : Shape} → Case p typings op row → Source → World → Value → Type 0
-  OfSource c source n v = IsOfKind p.linked n.heap (kind_of (here_of c) c.state source) v
+  OfSource c source n v = IsOfKind p.linked n.heap (kind_of_source (here_of c) c.state source) v
 
   pub by_case : (op : ℕ) (row : Shape) (d : Doing) → ((c : Case p typings op row) → ActsSo c (d (at_of c))) → Sound op row d
   by_case op row d g = record { so = λ w f r s instr ready e. g (record { world = w; frame = f; routine = r; state = s; instr = instr; ready = ready; is = e }) }
@@ -103,10 +103,10 @@ module _ (p : Setting) (file : FileGiven p) (ops : OpsGiven p) (typings : Typing
 
   -- ---- what is taken
 
-  pub taking_one : {X : Type 0} (op : ℕ) (row : Shape) → plain_count row.takes ≡ 1 → (c : Case p typings op row) → (m : Value → Run X) (R : World → X → Type 0) → ((k : Kind) (v : Value) → plain_of row.takes (parts_count (here_of c)) (taken (here_of c) c.state) ≡ k ∷ [] → IsOfKind p.linked c.world.heap k v → Fares p c.world (m v c.world) R) → Fares p c.world (one (at_of c) m c.world) R
+  pub taking_one : {X : Type 0} (op : ℕ) (row : Shape) → plain_count row.takes ≡ 1 → (c : Case p typings op row) → (m : Value → Run X) (R : World → X → Type 0) → ((k : Kind) (v : Value) → plain_of row.takes (parts_count (here_of c)) (stack_below (here_of c) c.state) ≡ k ∷ [] → IsOfKind p.linked c.world.heap k v → Fares p c.world (m v c.world) R) → Fares p c.world (one (at_of c) m c.world) R
   taking_one op row e c m R g = one_then p file ops typings typed c.world c.frame c.routine c.state c.instr row c.ready m R e g
 
-  pub taking_two : {X : Type 0} (op : ℕ) (row : Shape) → plain_count row.takes ≡ 2 → (c : Case p typings op row) → (m : Value → Value → Run X) (R : World → X → Type 0) → ((k l : Kind) (x y : Value) → plain_of row.takes (parts_count (here_of c)) (taken (here_of c) c.state) ≡ l ∷ k ∷ [] → IsOfKind p.linked c.world.heap k x → IsOfKind p.linked c.world.heap l y → Fares p c.world (m x y c.world) R) → Fares p c.world (two (at_of c) m c.world) R
+  pub taking_two : {X : Type 0} (op : ℕ) (row : Shape) → plain_count row.takes ≡ 2 → (c : Case p typings op row) → (m : Value → Value → Run X) (R : World → X → Type 0) → ((k l : Kind) (x y : Value) → plain_of row.takes (parts_count (here_of c)) (stack_below (here_of c) c.state) ≡ l ∷ k ∷ [] → IsOfKind p.linked c.world.heap k x → IsOfKind p.linked c.world.heap l y → Fares p c.world (m x y c.world) R) → Fares p c.world (two (at_of c) m c.world) R
   taking_two op row e c m R g = two_then p file ops typings typed c.world c.frame c.routine c.state c.instr row c.ready m R e g
 
   pub given_args : (op : ℕ) (row : Shape) (c : Case p typings op row) → Each (Exists p.linked c.world.heap) (at_of c).args
@@ -114,50 +114,50 @@ module _ (p : Setting) (file : FileGiven p) (ops : OpsGiven p) (typings : Typing
 
   -- ---- a value is given
 
-  pub gives_one : (op : ℕ) (row : Shape) (source : Source) (m : At → Run Value) → IsPlain row → row.gives ≡ source ∷ [] → ((c : Case p typings op row) → Fares p c.world (m (at_of c) c.world) (OfSource c source)) → Sound op row (gives m)
-  gives_one op row source m k e g = by_case op row (gives m) (λ c. gives_sound p file typings typed c.world c.frame c.routine c.state c.instr row c.ready (plain op row k c) source e m (g c))
+  pub gives_one : (op : ℕ) (row : Shape) (source : Source) (m : ActCase → Run Value) → IsPlain row → row.gives ≡ source ∷ [] → ((c : Case p typings op row) → Fares p c.world (m (at_of c) c.world) (OfSource c source)) → Sound op row (gives_pushed m)
+  gives_one op row source m k e g = by_case op row (gives_pushed m) (λ c. gives_sound p file typings typed c.world c.frame c.routine c.state c.instr row c.ready (plain op row k c) source e m (g c))
 
   -- from one value, or two
-  pub one_gives : (op : ℕ) (row : Shape) (source : Source) (m : At → Value → Run Value) → IsPlain row → row.gives ≡ source ∷ [] → plain_count row.takes ≡ 1 → ((c : Case p typings op row) (k : Kind) (v : Value) → plain_of row.takes (parts_count (here_of c)) (taken (here_of c) c.state) ≡ k ∷ [] → IsOfKind p.linked c.world.heap k v → Fares p c.world (m (at_of c) v c.world) (OfSource c source)) → Sound op row (gives (λ a. one a (m a)))
+  pub one_gives : (op : ℕ) (row : Shape) (source : Source) (m : ActCase → Value → Run Value) → IsPlain row → row.gives ≡ source ∷ [] → plain_count row.takes ≡ 1 → ((c : Case p typings op row) (k : Kind) (v : Value) → plain_of row.takes (parts_count (here_of c)) (stack_below (here_of c) c.state) ≡ k ∷ [] → IsOfKind p.linked c.world.heap k v → Fares p c.world (m (at_of c) v c.world) (OfSource c source)) → Sound op row (gives_pushed (λ a. one a (m a)))
   one_gives op row source m k e n g = gives_one op row source (λ a. one a (m a)) k e (λ c. taking_one op row n c (m (at_of c)) _ (g c))
 
-  pub two_give : (op : ℕ) (row : Shape) (source : Source) (m : At → Value → Value → Run Value) → IsPlain row → row.gives ≡ source ∷ [] → plain_count row.takes ≡ 2 → ((c : Case p typings op row) (k l : Kind) (x y : Value) → plain_of row.takes (parts_count (here_of c)) (taken (here_of c) c.state) ≡ l ∷ k ∷ [] → IsOfKind p.linked c.world.heap k x → IsOfKind p.linked c.world.heap l y → Fares p c.world (m (at_of c) x y c.world) (OfSource c source)) → Sound op row (gives (λ a. two a (m a)))
+  pub two_give : (op : ℕ) (row : Shape) (source : Source) (m : ActCase → Value → Value → Run Value) → IsPlain row → row.gives ≡ source ∷ [] → plain_count row.takes ≡ 2 → ((c : Case p typings op row) (k l : Kind) (x y : Value) → plain_of row.takes (parts_count (here_of c)) (stack_below (here_of c) c.state) ≡ l ∷ k ∷ [] → IsOfKind p.linked c.world.heap k x → IsOfKind p.linked c.world.heap l y → Fares p c.world (m (at_of c) x y c.world) (OfSource c source)) → Sound op row (gives_pushed (λ a. two a (m a)))
   two_give op row source m k e n g = gives_one op row source (λ a. two a (m a)) k e (λ c. taking_two op row n c (m (at_of c)) _ (g c))
 
   -- ---- nothing, or what comes
 
-  pub gives_nothing : (op : ℕ) (row : Shape) → IsPlain row → row.gives ≡ [] → Sound op row nothing
-  gives_nothing op row k e = by_case op row nothing (λ c. nothing_sound p file typings typed c.world c.frame c.routine c.state c.instr row c.ready (plain op row k c) e)
+  pub gives_nothing : (op : ℕ) (row : Shape) → IsPlain row → row.gives ≡ [] → Sound op row does_nothing
+  gives_nothing op row k e = by_case op row does_nothing (λ c. nothing_sound p file typings typed c.world c.frame c.routine c.state c.instr row c.ready (plain op row k c) e)
 
-  pub comes : (op : ℕ) (row : Shape) (m : At → Run Came) → IsPlain row → row.gives ≡ Fixed rows.Any ∷ [] → ((c : Case p typings op row) → Fares p c.world (m (at_of c) c.world) (CameSound p typings)) → Sound op row (gives_came m)
+  pub comes : (op : ℕ) (row : Shape) (m : ActCase → Run Came) → IsPlain row → row.gives ≡ Fixed rows.Any ∷ [] → ((c : Case p typings op row) → Fares p c.world (m (at_of c) c.world) (CameSound p typings)) → Sound op row (gives_came m)
   comes op row m k e g = by_case op row (gives_came m) (λ c. came_sound p file typings typed c.world c.frame c.routine c.state c.instr row c.ready (plain op row k c) e m (g c))
 
-  pub drops : (op : ℕ) (row : Shape) (m : At → Run Came) → IsPlain row → row.gives ≡ [] → ((c : Case p typings op row) → Fares p c.world (m (at_of c) c.world) (CameSound p typings)) → Sound op row (drops_came m)
+  pub drops : (op : ℕ) (row : Shape) (m : ActCase → Run Came) → IsPlain row → row.gives ≡ [] → ((c : Case p typings op row) → Fares p c.world (m (at_of c) c.world) (CameSound p typings)) → Sound op row (drops_came m)
   drops op row m k e g = by_case op row (drops_came m) (λ c. dropped_sound p file typings typed c.world c.frame c.routine c.state c.instr row c.ready (plain op row k c) e m (g c))
 
   -- ---- it goes to a place
 
-  pub goes_there : (op : ℕ) (row : Shape) → IsStill row → (c : Case p typings op row) (t : ℕ) → In t (leads (here_of c) row.leads) → (n : World) → Leaves p c.world n → Fares p n (goes (jumps t (at_of c).rest) n) (ActSound p typings c.frame)
+  pub goes_there : (op : ℕ) (row : Shape) → IsStill row → (c : Case p typings op row) (t : ℕ) → In t (leads (here_of c) row.leads) → (n : World) → LeavesSound p c.world n → Fares p n (goes (jumps t (at_of c).rest) n) (ActSound p typings c.frame)
   goes_there op row k c t i n l = goes_to p file typings typed c.world c.frame c.routine c.state c.instr row c.ready (still op row k c) k.gives_none t i n l
 
   pub target_of : (op : ℕ) (row : Shape) (c : Case p typings op row) → HasTarget row.leads (targets c.instr)
   target_of op row c = (file.formed c.frame.method c.routine c.frame.place c.instr c.ready.body c.ready.at).target row c.ready.row_is
 
-  first_in : (ts : List ℕ) → HasTarget Branches ts → In (first_of ts) ts
+  first_in : (ts : List ℕ) → HasTarget Branches ts → In (first_target ts) ts
   first_in [] h = absurd h
   first_in (t ∷ ts) h = inl refl
 
   -- a branch, by a test
-  pub branches_so : (op : ℕ) (row : Shape) (test : At → Run Bool) → IsStill row → row.leads ≡ Branches → ((c : Case p typings op row) → Fares p c.world (test (at_of c) c.world) (λ n b. Unit {0})) → Sound op row (branches test)
-  branches_so op row test k e g = by_case op row (branches test) (λ c. then_fares p c.world _ _ _ _ (g c) (λ n b l u. go c n b l))
+  pub branches_so : (op : ℕ) (row : Shape) (test : ActCase → Run Bool) → IsStill row → row.leads ≡ Branches → ((c : Case p typings op row) → Fares p c.world (test (at_of c) c.world) (λ n b. Unit {0})) → Sound op row (branch_where test)
+  branches_so op row test k e g = by_case op row (branch_where test) (λ c. then_fares p c.world _ _ _ _ (g c) (λ n b l u. go c n b l))
     where
-      go : (c : Case p typings op row) (n : World) (b : Bool) → Leaves p c.world n → Fares p n (goes (if b then jumps (first_of (targets c.instr)) (at_of c).rest else next (at_of c).rest) n) (ActSound p typings c.frame)
-      go c n true l = goes_there op row k c (first_of (targets c.instr)) (subst (λ x. In (first_of (targets c.instr)) (leads (here_of c) x)) (sym e) (inr (first_in (targets c.instr) (subst (λ x. HasTarget x (targets c.instr)) e (target_of op row c))))) n l
+      go : (c : Case p typings op row) (n : World) (b : Bool) → LeavesSound p c.world n → Fares p n (goes (if b then jumps (first_target (targets c.instr)) (at_of c).rest else next_frame (at_of c).rest) n) (ActSound p typings c.frame)
+      go c n true l = goes_there op row k c (first_target (targets c.instr)) (subst (λ x. In (first_target (targets c.instr)) (leads (here_of c) x)) (sym e) (inr (first_in (targets c.instr) (subst (λ x. HasTarget x (targets c.instr)) e (target_of op row c))))) n l
       go c n false l = goes_there op row k c (c.frame.place + 1) (subst (λ x. In (c.frame.place + 1) (leads (here_of c) x)) (sym e) (inl refl)) n l
 
   -- ---- a local is set
 
-  pub sets : (op : ℕ) (row : Shape) (source : Source) → unslotted row.takes ≡ true → row.scoping ≡ SameScopes → row.locals ≡ Sets source → row.leads ≡ Next → row.gives ≡ [] → (c : Case p typings op row) (n : World) (v : Value) → Leaves p c.world n → OfSource c source n v → Fares p n (sets_local (at_of c) v n) (ActSound p typings c.frame)
+  pub sets : (op : ℕ) (row : Shape) (source : Source) → unslotted row.takes ≡ true → row.scoping ≡ SameScopes → row.locals ≡ Sets source → row.leads ≡ Next → row.gives ≡ [] → (c : Case p typings op row) (n : World) (v : Value) → LeavesSound p c.world n → OfSource c source n v → Fares p n (sets_local (at_of c) v n) (ActSound p typings c.frame)
   sets op row source us sc lo le gi c n v l hv =
       let w = c.world in
       let f = c.frame in
@@ -167,11 +167,11 @@ module _ (p : Setting) (file : FileGiven p) (ops : OpsGiven p) (typings : Typing
       let locals = locals_left p file typings typed w f c.routine c.state c.instr row c.ready n l in
       done_fares p n _ _ l.sound (
         refl,
-        moves_to p file typings typed w f c.routine c.state c.instr row c.ready n l (next (with_local (local c.instr) v (at_of c).rest)) (f.place + 1) (subst (λ x. In (f.place + 1) (leads h x)) (sym le) (inl refl))
-            (unslotted_left (needs h) (taken h c.state) (unslotted_unfolded (name_at p.linked (operand c.instr)) row.takes us))
+        moves_to p file typings typed w f c.routine c.state c.instr row c.ready n l (next_frame (frame_with_local (local c.instr) v (at_of c).rest)) (f.place + 1) (subst (λ x. In (f.place + 1) (leads h x)) (sym le) (inl refl))
+            (unslotted_left (needs h) (stack_below h c.state) (unslotted_unfolded (multiname_at p.linked (operand c.instr)) row.takes us))
             (record { method = refl; home = refl; saved = refl; place = refl; wait = refl })
             (record {
-              stack = subst (λ x. Each2 (IsOfKind p.linked n.heap) (map (kind_of h c.state) x ++ drop (Rattle.abc_verify_typing.specs.Effects.depth h) c.state.stack) (drop (Rattle.abc_verify_typing.specs.Effects.depth h) f.stack)) (sym gi) stack;
+              stack = subst (λ x. Each2 (IsOfKind p.linked n.heap) (map (kind_of_source h c.state) x ++ drop (Rattle.abc_verify_typing.specs.Effects.depth h) c.state.stack) (drop (Rattle.abc_verify_typing.specs.Effects.depth h) f.stack)) (sym gi) stack;
               scopes = subst (λ x. Each2 (Rattle.abc_meaning.specs.Sound.ScopeHolds p.linked n.heap) (Rattle.abc_verify_typing.specs.Effects.scopes_after h c.state x) f.scopes) (sym sc) scopes;
               locals = subst (λ x. Each2 (IsOfKind p.linked n.heap) (locals_after h c.state x) (set f.locals (local c.instr) v)) (sym lo) (Each2-set (IsOfKind p.linked n.heap) (local c.instr) c.state.locals f.locals _ v locals hv);
             }),

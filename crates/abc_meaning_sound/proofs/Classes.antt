@@ -7,9 +7,9 @@ use Rattle.abc_heap_values.specs.declared.values.ObjId.{ObjId}
 use Rattle.abc_heap_values.specs.declared.values.Value.{Value}
 use Rattle.abc_heap_values.specs.declared.values.Value.TheVariants.{Undefined, Null, Num, Bool as Truth, Text, Space, Obj}
 use Rattle.abc_base_graphs.specs.Graph.{Leads}
-use Rattle.abc_heap_store.specs.Changes.{bare, change, with_class, with_made, with_more_slots, with_scopes, with_slot}
+use Rattle.abc_heap_store.specs.Changes.{bare_object, change, with_class, with_made, with_more_slots, with_scopes, with_slot}
 use Rattle.abc_heap_store.specs.Heap.{Heap, Object, cells_used, object_at, obj_id}
-use Rattle.abc_heap_store.specs.Scopes.{nodes, scope_id, top}
+use Rattle.abc_heap_store.specs.Scopes.{nodes, scope_id, top_of_scopes}
 use Rattle.abc_heap_store.specs.declared.records.ScopeEntry.{ScopeEntry}
 use Rattle.abc_heap_store.specs.declared.records.ScopeId.{ScopeId}
 use Rattle.abc_heap_store.specs.declared.records.What.{What}
@@ -32,14 +32,14 @@ use Rattle.abc_link_names.specs.declared.part.Part.TheVariants as parts
 use Rattle.abc_link_names.specs.declared.types.Ty.TheVariants as types
 use Rattle.abc_link_names.specs.Bases.{base_graph}
 use Rattle.abc_verify_typing.proofs.Lists.{slice_get-pushed, slice_get-last}
-use Rattle.abc_meaning.specs.Objects.{Place, class_object, flat, kept_by, new_class, prototype_for}
+use Rattle.abc_meaning.specs.Objects.{Place, class_object, flat_value, place_kept_by, new_class, prototype_for}
 use Rattle.abc_meaning.specs.Setting.{Setting}
-use Rattle.abc_meaning.specs.World.{Errs, Went, World, and_then, object, some}
-use Rattle.abc_meaning.specs.Newing.{base_prototype, is_none, is_that}
-use Rattle.abc_meaning.specs.Sound.{AreMade, IsMade, IsWithin, ObjectSound, PartSound, SlotHolds, WhatSound, WorldSound}
+use Rattle.abc_meaning.specs.World.{Errs, Went, World, and_then, object_named, some}
+use Rattle.abc_meaning.specs.Newing.{base_prototype, is_none, is_same_object}
+use Rattle.abc_meaning.specs.Sound.{AreClassesMade, HasClassMade, IsHeapWithin, ObjectSound, PartSound, SlotHolds, WhatSound, WorldSound}
 use Rattle.abc_meaning_sound.specs.Given.{FileGiven, ScopesGiven}
 use Rattle.abc_link_names.specs.ClassBases.{BaseKnown}
-use Rattle.abc_meaning_sound.specs.Keeping.{Evolves, Fares, Leaves}
+use Rattle.abc_meaning_sound.specs.Keeping.{Evolves, Fares, LeavesSound}
 use Rattle.abc_meaning_sound.proofs.Faring.{cells_then, done_fares, if_fares, objects_then, stop_fares, went_fares}
 use Rattle.abc_meaning_sound.proofs.Growing.{any_kind, first_is, object_on}
 use Rattle.abc_meaning_sound.proofs.Lists.{cells_append, change_at, change_cells, change_long, each2_put}
@@ -58,7 +58,7 @@ set_elsewhere (y ∷ xs) (suc k) zero x ne = refl
 set_elsewhere (y ∷ xs) (suc k) (suc i) x ne = set_elsewhere xs k i x (λ e. ne (ap suc e))
 
 -- what is flat is the entry, or none
-flat_or : {X : Type 0} (xs : List (Option X)) (k : ℕ) → flat (slice_get xs k) ≡ None → get_or xs k None ≡ None
+flat_or : {X : Type 0} (xs : List (Option X)) (k : ℕ) → flat_value (slice_get xs k) ≡ None → get_or xs k None ≡ None
 flat_or [] k e = refl
 flat_or (None ∷ xs) zero e = refl
 flat_or (Some x ∷ xs) zero e = e
@@ -69,16 +69,16 @@ taken [] k o f e = absurd cc
 taken (x ∷ xs) zero o f e = let p : x ≡ Some o = cc in absurd (let q : ◌≡◌ {A = Option _} (Some o) None = sym p ∙ f in cc)
 taken (x ∷ xs) (suc k) o f e = taken xs k o f e
 
-flat_is : {X : Type 0} (xs : List (Option X)) (k : ℕ) (o : X) → flat (slice_get xs k) ≡ Some o → slice_get xs k ≡ Some (Some o)
+flat_is : {X : Type 0} (xs : List (Option X)) (k : ℕ) (o : X) → flat_value (slice_get xs k) ≡ Some o → slice_get xs k ≡ Some (Some o)
 flat_is [] k o e = absurd cc
 flat_is (None ∷ xs) zero o e = absurd cc
 flat_is (Some x ∷ xs) zero o e = ap Some e
 flat_is (x ∷ xs) (suc k) o e = flat_is xs k o e
 
 -- where a class object keeps a place
-pub kept_is : (which : What → Option Place) (k : ℕ) (w : World) (o : ObjId) (ob : Object) (at : Place) → class_object k w ≡ Some o → object o w ≡ Some ob → which ob.what ≡ Some at → kept_by which k w ≡ Went w at
+pub kept_is : (which : What → Option Place) (k : ℕ) (w : World) (o : ObjId) (ob : Object) (at : Place) → class_object k w ≡ Some o → object_named o w ≡ Some ob → which ob.what ≡ Some at → place_kept_by which k w ≡ Went w at
 kept_is which k w o ob at e f g =
-    ap (λ q. and_then (some q w) (λ x w'. and_then (some (object x w') w') (λ y w''. some (which y.what) w''))) e
+    ap (λ q. and_then (some q w) (λ x w'. and_then (some (object_named x w') w') (λ y w''. some (which y.what) w''))) e
     ∙ ap (λ q. and_then (some q w) (λ y w''. some (which y.what) w'')) f
     ∙ ap (λ q. some q w) g
 
@@ -90,7 +90,7 @@ module _ (p : Setting) (file : FileGiven p) (scopes : ScopesGiven p) where
     pub statics : Option ScopeId
     pub instances : ScopeId
     pub what : (object_at w.heap.objects o.0).what ≡ whats.ClassObject k home statics instances
-    pub made : AreMade p.linked w.heap k
+    pub made : AreClassesMade p.linked w.heap k
 
   pub class_there : (w : World) (k : ℕ) (o : ObjId) → WorldSound p w → k < length p.linked.file.instances → class_object k w ≡ Some o → ClassThere w k o
   class_there w k o z b e =
@@ -104,13 +104,13 @@ module _ (p : Setting) (file : FileGiven p) (scopes : ScopesGiven p) where
   -- ---- the base
 
   abbrev pub BaseMade : World → Option Named → Type 0
-  BaseMade n (Some (named.Class j)) = AreMade p.linked n.heap j
+  BaseMade n (Some (named.Class j)) = AreClassesMade p.linked n.heap j
   BaseMade n other = Unit {0}
 
   abbrev pub BaseFound : Heap → Option Named → World → Option ObjId → Type 0
   BaseFound h b n o = IsObjectOrNone n.heap o × BaseMade n b × (n.heap ≡ h)
 
-  that_fares : (w : World) (o : ObjId) (v : Value) (b : Option Named) → WorldSound p w → BaseMade w b → Fares p w (is_that (Some o) v w) (BaseFound w.heap b)
+  that_fares : (w : World) (o : ObjId) (v : Value) (b : Option Named) → WorldSound p w → BaseMade w b → Fares p w (is_same_object (Some o) v w) (BaseFound w.heap b)
   that_fares w o (Obj c) b z made = if_fares p w (nat_eq o.0 c.0) _ _ _ (λ q. done_fares p w _ _ z (prototype_is p.linked w.heap o.0 z.stands, made, refl)) (λ q. stop_fares p w (Errs hosts.TypeError) _ z tt)
   that_fares w o Undefined b z made = stop_fares p w (Errs hosts.TypeError) _ z tt
   that_fares w o Null b z made = stop_fares p w (Errs hosts.TypeError) _ z tt
@@ -133,7 +133,7 @@ module _ (p : Setting) (file : FileGiven p) (scopes : ScopesGiven p) where
   base_fares w (Some (named.Host c)) v z known = that_fares w (obj_id (Rattle.abc_objects.specs.Stands.host_class_number c)) v (Some (named.Host c)) z tt
   base_fares w (Some (named.Class j)) v z known = go (class_object j w) refl
     where
-      go : (o : Option ObjId) → class_object j w ≡ o → Fares p w (is_that o v w) (BaseFound w.heap (Some (named.Class j)))
+      go : (o : Option ObjId) → class_object j w ≡ o → Fares p w (is_same_object o v w) (BaseFound w.heap (Some (named.Class j)))
       go None is = stop_fares p w (Errs hosts.TypeError) _ z tt
       go (Some o) is = that_fares w o v (Some (named.Class j)) z (class_there w j o z known is).made
   base_fares w (Some named.Any) v z known = absurd known
@@ -149,16 +149,16 @@ module _ (p : Setting) (file : FileGiven p) (scopes : ScopesGiven p) where
     cs = start_values p.linked (layout_of p.linked (parts.ClassObject k)).0
 
     abbrev first : Object
-    first = with_more_slots ps (bare (host_layout p.linked hosts.Object) base whats.Plain)
+    first = with_more_slots ps (bare_object (host_layout p.linked hosts.Object) base whats.Plain)
 
     abbrev place_is : Option ScopeId
-    place_is = top (length h.scopes) saved es
+    place_is = top_of_scopes (length h.scopes) saved es
 
     abbrev what_is : What
     what_is = whats.ClassObject k home place_is (scope_id (length h.scopes + length es))
 
     abbrev second : Object
-    second = with_more_slots cs (bare (layout_of p.linked (parts.ClassObject k)).0 delegate what_is)
+    second = with_more_slots cs (bare_object (layout_of p.linked (parts.ClassObject k)).0 delegate what_is)
 
     abbrev own : List ScopeEntry
     own = record { object = obj_id (length h.objects + 1); with_flag = false } ∷ []
@@ -188,7 +188,7 @@ module _ (p : Setting) (file : FileGiven p) (scopes : ScopesGiven p) where
     evolves : get_or h.classes k None ≡ None → Evolves h with_it
     evolves free = record { grows = grows; classes = λ j o e. set_elsewhere h.classes k j (Some (obj_id (length h.objects + 1))) (λ (z : j ≡ k). taken h.classes k o free (subst (λ i. slice_get h.classes i ≡ Some (Some o)) z e)) ∙ e; limits = refl }
 
-    within : IsWithin h → length h.objects + 2 ≤ h.limits.objects → cells_used h + (length ps + length cs + length es + 1) ≤ h.limits.cells → IsWithin with_it
+    within : IsHeapWithin h → length h.objects + 2 ≤ h.limits.objects → cells_used h + (length ps + length cs + length es + 1) ≤ h.limits.cells → IsHeapWithin with_it
     within z a b =
         let objects = (h.objects ++ first ∷ []) ++ second ∷ [] in
         let c1 = cells_append h.objects (first ∷ []) in
@@ -212,15 +212,15 @@ module _ (p : Setting) (file : FileGiven p) (scopes : ScopesGiven p) where
         let all = slots_are p.linked file.linked (layout_of p.linked (parts.ClassObject k)).0 (parts.ClassObject k) (parts.Host hosts.Class) found.1 refl ∙ ap (λ xs. xs ++ own_slots p.linked (parts.ClassObject k)) below in
         ap (λ y. slice_get (slots_of p.linked y) 0) e ∙ ap (λ xs. slice_get xs 0) all
 
-    made_now : get_or h.classes k None ≡ None → k < length p.linked.file.instances → length h.classes ≡ length p.linked.file.instances → ((b : ℕ) → Leads (base_graph p.linked.file) k b → IsMade with_it b) → AreMade p.linked with_it k
+    made_now : get_or h.classes k None ≡ None → k < length p.linked.file.instances → length h.classes ≡ length p.linked.file.instances → ((b : ℕ) → Leads (base_graph p.linked.file) k b → HasClassMade with_it b) → AreClassesMade p.linked with_it k
     made_now free b count bases = record { own = (obj_id (length h.objects + 1), set_here h.classes k (Some (obj_id (length h.objects + 1))) (omega (arith, b, count))); bases = bases }
 
-    second_sound : StandsOver p.linked with_it → k < length p.linked.file.instances → AreMade p.linked with_it k → ObjectSound p with_it second
+    second_sound : StandsOver p.linked with_it → k < length p.linked.file.instances → AreClassesMade p.linked with_it k → ObjectSound p with_it second
     second_sound over b made =
         let found = part_found p.linked file.linked (parts.ClassObject k) b in
         record { slots = file.starts with_it (layout_of p.linked (parts.ClassObject k)).0 over found.0; what = refl; part = subst (PartSound p.linked with_it) (sym found.1) made; first_of = first_is p.linked (parts.ClassObject k) found.1 }
 
-    kept_sound : StandsOver p.linked with_it → k < length p.linked.file.instances → AreMade p.linked with_it k → length h.objects < length with_it.objects → ObjectSound p with_it (keeps_proto second)
+    kept_sound : StandsOver p.linked with_it → k < length p.linked.file.instances → AreClassesMade p.linked with_it k → length h.objects < length with_it.objects → ObjectSound p with_it (keeps_proto second)
     kept_sound over b made low =
         let s = second_sound over b made in
         record { slots = each2_put (SlotHolds p.linked with_it) (slots_of p.linked (layout_of p.linked (parts.ClassObject k)).0) cs 0 (record { ty = types.Object; constant = true; start = Rattle.abc_link_names.specs.declared.start.Start.TheVariants.Null }) (Obj (obj_id (length h.objects))) s.slots (first_slot (layout_of p.linked (parts.ClassObject k)).0 refl b) (any_kind p.linked with_it (Obj (obj_id (length h.objects))) low); what = s.what; part = s.part; first_of = s.first_of }
@@ -233,7 +233,7 @@ module _ (p : Setting) (file : FileGiven p) (scopes : ScopesGiven p) where
     at_second : slice_get ((h.objects ++ first ∷ []) ++ second ∷ []) (length h.objects + 1) ≡ Some second
     at_second = let l = length-append h.objects (first ∷ []) in subst (λ i. slice_get ((h.objects ++ first ∷ []) ++ second ∷ []) i ≡ Some second) (let e : length (h.objects ++ first ∷ []) ≡ length h.objects + 1 = omega (arith, l) in e) (slice_get-last (h.objects ++ first ∷ []) second)
 
-  class_leaves : (w : World) (k home : ℕ) (base : Option ObjId) (saved : Option ScopeId) (es : List ScopeEntry) → WorldSound p w → k < length p.linked.file.instances → home < length p.linked.file.scripts → class_object k w ≡ None → IsObjectOrNone w.heap base → IsScope w.heap saved → AreEntries w.heap es → ((b : ℕ) → Leads (base_graph p.linked.file) k b → IsMade w.heap b) → length w.heap.objects + 2 ≤ w.heap.limits.objects → cells_used w.heap + (length (start_values p.linked (host_layout p.linked hosts.Object)) + length (start_values p.linked (layout_of p.linked (parts.ClassObject k)).0) + length es + 1) ≤ w.heap.limits.cells → Leaves p w (record w { heap = with_it w.heap k home base (prototype_for hosts.Class w) saved es })
+  class_leaves : (w : World) (k home : ℕ) (base : Option ObjId) (saved : Option ScopeId) (es : List ScopeEntry) → WorldSound p w → k < length p.linked.file.instances → home < length p.linked.file.scripts → class_object k w ≡ None → IsObjectOrNone w.heap base → IsScope w.heap saved → AreEntries w.heap es → ((b : ℕ) → Leads (base_graph p.linked.file) k b → HasClassMade w.heap b) → length w.heap.objects + 2 ≤ w.heap.limits.objects → cells_used w.heap + (length (start_values p.linked (host_layout p.linked hosts.Object)) + length (start_values p.linked (layout_of p.linked (parts.ClassObject k)).0) + length es + 1) ≤ w.heap.limits.cells → LeavesSound p w (record w { heap = with_it w.heap k home base (prototype_for hosts.Class w) saved es })
   class_leaves w k home base saved es z b hh none hb hs he bases a c =
       let h = w.heap in
       let d = prototype_for hosts.Class w in
@@ -272,7 +272,7 @@ module _ (p : Setting) (file : FileGiven p) (scopes : ScopesGiven p) where
   change_last_at f zero (y ∷ xs) x e = let same : y ≡ x = cc in ap (λ z. Some (f z)) same
   change_last_at f (suc o) (y ∷ xs) x e = change_last_at f o xs x e
 
-  pub new_class_fares : (w : World) (k home : ℕ) (base : Option ObjId) (saved : Option ScopeId) (es : List ScopeEntry) → WorldSound p w → k < length p.linked.file.instances → home < length p.linked.file.scripts → class_object k w ≡ None → IsObjectOrNone w.heap base → IsScope w.heap saved → AreEntries w.heap es → ((b : ℕ) → Leads (base_graph p.linked.file) k b → IsMade w.heap b) → Fares p w (new_class p k home base saved es w) (ClassMade k home)
+  pub new_class_fares : (w : World) (k home : ℕ) (base : Option ObjId) (saved : Option ScopeId) (es : List ScopeEntry) → WorldSound p w → k < length p.linked.file.instances → home < length p.linked.file.scripts → class_object k w ≡ None → IsObjectOrNone w.heap base → IsScope w.heap saved → AreEntries w.heap es → ((b : ℕ) → Leads (base_graph p.linked.file) k b → HasClassMade w.heap b) → Fares p w (new_class p k home base saved es w) (ClassMade k home)
   new_class_fares w k home base saved es z b hh none hb hs he bases =
       let h = w.heap in
       let d = prototype_for hosts.Class w in
@@ -285,4 +285,4 @@ module _ (p : Setting) (file : FileGiven p) (scopes : ScopesGiven p) where
       let there_is = object_there (with_it h k home base d saved es).objects (length h.objects + 1) (put s) at in
       let count = z.stands.counted in
       went_fares p w _ _ _ (class_leaves w k home base saved es z b hh none hb hs he bases a c)
-      (record { inside = Rattle.abc_meaning_sound.proofs.Lists.inside (with_it h k home base d saved es).objects (length h.objects + 1) (put s) at; is = ap flat (set_here h.classes k (Some (obj_id (length h.objects + 1))) (omega (arith, b, count))); statics = place_is h k home base d saved es; instances = scope_id (length h.scopes + length es); what = ap (λ (x : Object). x.what) there_is; layout = ap (λ (x : Object). x.layout) there_is })))
+      (record { inside = Rattle.abc_meaning_sound.proofs.Lists.inside (with_it h k home base d saved es).objects (length h.objects + 1) (put s) at; is = ap flat_value (set_here h.classes k (Some (obj_id (length h.objects + 1))) (omega (arith, b, count))); statics = place_is h k home base d saved es; instances = scope_id (length h.scopes + length es); what = ap (λ (x : Object). x.what) there_is; layout = ap (λ (x : Object). x.layout) there_is })))

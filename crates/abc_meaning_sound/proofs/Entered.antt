@@ -26,20 +26,20 @@ use Rattle.abc_file_types.specs.Methods.{has_flag}
 use Rattle.abc_file_types.specs.declared.methods.Method.{Method}
 use Rattle.abc_file_types.specs.declared.methods.OptionValue.{OptionValue}
 use Rattle.abc_verify_typing.specs.Lists.{Each, Each2}
-use Rattle.abc_verify_typing.specs.Routines.{Routine, arrays, kind_if, object_of, or_any, this_kind, type_at}
+use Rattle.abc_verify_typing.specs.Routines.{Routine, arrays, kind_if, kind_of_part, or_any, this_kind, type_at}
 use Rattle.abc_verify_typing.specs.Typing.{entry}
 use Rattle.abc_verify_typing.specs.declared.rule.VerifyRule.TheVariants.{Parameters}
 use Rattle.abc_verify_typing.proofs.Fine.{stands}
 use Rattle.abc_verify_typing.proofs.Lists.{Each2-append, Each2-length, Each2-take}
 use Rattle.abc_verify_typing.proofs.Member.{and_left}
-use Rattle.abc_meaning.specs.Entering.{arguments, array_of, coerced, coerces_to, enters, enters_owned, extra, framed, gives_option, global, or_double, starts}
+use Rattle.abc_meaning.specs.Entering.{arguments_for, array_of, coerced_arguments, coerces_to, enters, enters_owned, extra, frame_for, gives_option, global, or_double, starts_script}
 use Rattle.abc_frames.specs.Frame.{Frame}
 use Rattle.abc_meaning.specs.Objects.{Place, place}
-use Rattle.abc_meaning.specs.Setting.{Setting, may_take, method_of, options_of, routine_of, value_of_option}
-use Rattle.abc_meaning.specs.World.{Errs, Faults, World, and_then, done, throws}
+use Rattle.abc_meaning.specs.Setting.{Setting, may_take_arguments, method_of, options_of, routine_of, value_of_option}
+use Rattle.abc_meaning.specs.World.{Errs, Faults, World, and_then, pure, throws}
 use Rattle.abc_meaning.specs.Sound.{AreTypings, FrameSound, IsOfKind, Typings, WorldSound}
 use Rattle.abc_meaning_sound.specs.Given.{FileGiven, HasBody, IsMethod, IsType, OptionExists, OpsGiven, OwnedSound}
-use Rattle.abc_meaning_sound.specs.Keeping.{Fares, Leaves}
+use Rattle.abc_meaning_sound.specs.Keeping.{Fares, LeavesSound}
 use Rattle.abc_meaning_sound.proofs.Faring.{done_fares, fares_from, if_fares, must_then, some_then, stop_fares, then_fares}
 use Rattle.abc_meaning_sound.proofs.Growing.{evolves_self, kind_on, kinds_on, state_up, values_on}
 use Rattle.abc_meaning_sound.proofs.Lists.{each_drop}
@@ -69,7 +69,7 @@ behind_given (suc k) [] xs n a b = tt
 behind_given (suc k) (t ∷ ts) xs zero a b = absurd (omega (arith, a))
 behind_given (suc k) (t ∷ ts) xs (suc n) a b = behind_given k ts xs n (omega (arith, a)) (omega (arith, b))
 
-provided : (m : Method) (n : ℕ) → may_take m n ≡ true → AreProvided m.params (options_of m) n
+provided : (m : Method) (n : ℕ) → may_take_arguments m n ≡ true → AreProvided m.params (options_of m) n
 provided m n e =
     let a = leb-true (length m.params - length m.options) n (and_left (nat_le (length m.params - length m.options) n) _ e) in
     behind_given (length m.params - length m.options) m.params m.options n a (omega arith)
@@ -106,32 +106,32 @@ module _ (p : Setting) (file : FileGiven p) (ops : OpsGiven p) where
       go None is = stop_fares p w (Faults faults.Double) _ s tt
       go (Some v) is = done_fares p w v _ s (h w.heap v s.stands is)
 
-  coerced_fares : (w : World) (ts : List ℕ) (os : List (Option OptionValue)) (vs : List Value) → WorldSound p w → Each (IsType p.linked) ts → Each (OptionExists p) os → AreProvided ts os (length vs) → Each (Exists p.linked w.heap) vs → Fares p w (coerced p ts os vs w) (λ n cs. Each2 (IsOfKind p.linked n.heap) (map param_kind ts) cs)
+  coerced_fares : (w : World) (ts : List ℕ) (os : List (Option OptionValue)) (vs : List Value) → WorldSound p w → Each (IsType p.linked) ts → Each (OptionExists p) os → AreProvided ts os (length vs) → Each (Exists p.linked w.heap) vs → Fares p w (coerced_arguments p ts os vs w) (λ n cs. Each2 (IsOfKind p.linked n.heap) (map param_kind ts) cs)
   coerced_fares w [] os vs s ht ho hp es = done_fares p w [] _ s tt
   coerced_fares w (t ∷ ts) [] vs s ht ho hp es = absurd hp
   coerced_fares w (t ∷ ts) (o ∷ os) [] s ht ho hp es =
       then_fares p w (gives_option p o w) _ (λ n v. Exists p.linked n.heap v) _ (option_fares w o s ho.0 hp.0) (λ n v l h.
       then_fares p n (coerces_to p t v n) _ (λ m c. IsOfKind p.linked m.heap (param_kind t) c) _ (coerces_to_fares n t v ht.0 l.sound h) (λ m c l' hc.
-      then_fares p m (coerced p ts os [] m) _ (λ i cs. Each2 (IsOfKind p.linked i.heap) (map param_kind ts) cs) _ (coerced_fares m ts os [] l'.sound ht.1 ho.1 hp.1 tt) (λ i cs l'' hs.
+      then_fares p m (coerced_arguments p ts os [] m) _ (λ i cs. Each2 (IsOfKind p.linked i.heap) (map param_kind ts) cs) _ (coerced_fares m ts os [] l'.sound ht.1 ho.1 hp.1 tt) (λ i cs l'' hs.
       done_fares p i (c ∷ cs) _ l''.sound (kind_on p m.heap i.heap l''.grows (param_kind t) c hc, hs))))
   coerced_fares w (t ∷ ts) (o ∷ os) (v ∷ vs) s ht ho hp es =
       then_fares p w (coerces_to p t v w) _ (λ m c. IsOfKind p.linked m.heap (param_kind t) c) _ (coerces_to_fares w t v ht.0 s es.0) (λ m c l hc.
-      then_fares p m (coerced p ts os vs m) _ (λ i cs. Each2 (IsOfKind p.linked i.heap) (map param_kind ts) cs) _ (coerced_fares m ts os vs l.sound ht.1 ho.1 hp (values_on p w.heap m.heap l.grows vs es.1)) (λ i cs l' hs.
+      then_fares p m (coerced_arguments p ts os vs m) _ (λ i cs. Each2 (IsOfKind p.linked i.heap) (map param_kind ts) cs) _ (coerced_fares m ts os vs l.sound ht.1 ho.1 hp (values_on p w.heap m.heap l.grows vs es.1)) (λ i cs l' hs.
       done_fares p i (c ∷ cs) _ l'.sound (kind_on p m.heap i.heap l'.grows (param_kind t) c hc, hs)))
 
-  pub arguments_fares : (w : World) (n : ℕ) (r : Routine) (i : IsMethod p n r) (vs : List Value) → WorldSound p w → Each (Exists p.linked w.heap) vs → Fares p w (arguments p i.method vs w) (λ n cs. Each2 (IsOfKind p.linked n.heap) (map param_kind i.method.params) cs)
+  pub arguments_fares : (w : World) (n : ℕ) (r : Routine) (i : IsMethod p n r) (vs : List Value) → WorldSound p w → Each (Exists p.linked w.heap) vs → Fares p w (arguments_for p i.method vs w) (λ n cs. Each2 (IsOfKind p.linked n.heap) (map param_kind i.method.params) cs)
   arguments_fares w n r i vs s es =
-      if_fares p w (may_take i.method (length vs)) (coerced p i.method.params (options_of i.method) vs) (throws hosts.ArgumentError) _
+      if_fares p w (may_take_arguments i.method (length vs)) (coerced_arguments p i.method.params (options_of i.method) vs) (throws hosts.ArgumentError) _
       (λ e. coerced_fares w i.method.params (options_of i.method) vs s i.params i.options (provided i.method (length vs) e) es)
       (λ e. stop_fares p w (Errs hosts.ArgumentError) _ s tt)
 
   array_kind : Kind
-  array_kind = object_of p.linked (parts.Host hosts.Array)
+  array_kind = kind_of_part p.linked (parts.Host hosts.Array)
 
-  array_of_fares : (w : World) (vs : List Value) → WorldSound p w → Each (Exists p.linked w.heap) vs → Fares p w (array_of p vs w) (λ n os. Each2 (IsOfKind p.linked n.heap) (object_of p.linked (parts.Host hosts.Array) ∷ []) os)
+  array_of_fares : (w : World) (vs : List Value) → WorldSound p w → Each (Exists p.linked w.heap) vs → Fares p w (array_of p vs w) (λ n os. Each2 (IsOfKind p.linked n.heap) (kind_of_part p.linked (parts.Host hosts.Array) ∷ []) os)
   array_of_fares w vs s es = then_fares p w _ _ _ _ (new_array_fares p file w vs s es) (λ n o l h. done_fares p n (Obj o ∷ []) _ l.sound (h, tt))
 
-  extra_by : (w : World) (k : ℕ) (vs : List Value) (four one : Bool) → WorldSound p w → Each (Exists p.linked w.heap) vs → Fares p w ((if four then array_of p (drop k vs) else (if one then array_of p vs else done [])) w) (λ n os. Each2 (IsOfKind p.linked n.heap) (if one || four then object_of p.linked (parts.Host hosts.Array) ∷ [] else []) os)
+  extra_by : (w : World) (k : ℕ) (vs : List Value) (four one : Bool) → WorldSound p w → Each (Exists p.linked w.heap) vs → Fares p w ((if four then array_of p (drop k vs) else (if one then array_of p vs else pure [])) w) (λ n os. Each2 (IsOfKind p.linked n.heap) (if one || four then kind_of_part p.linked (parts.Host hosts.Array) ∷ [] else []) os)
   extra_by w k vs true true s es = array_of_fares w (drop k vs) s (each_drop (Exists p.linked w.heap) k vs es)
   extra_by w k vs true false s es = array_of_fares w (drop k vs) s (each_drop (Exists p.linked w.heap) k vs es)
   extra_by w k vs false true s es = array_of_fares w vs s es
@@ -152,7 +152,7 @@ module _ (p : Setting) (file : FileGiven p) (ops : OpsGiven p) where
         leb-true (length r.filled) r.local_count (at.kept Parameters)
 
     -- of arguments that are coerced
-    pub framed_fares : (w : World) (n : ℕ) (r : Routine) (i : IsMethod p n r) (this : Value) (at : Place) (given vs : List Value) → WorldSound p w → routine_of p n ≡ Some r → IsOfKind p.linked w.heap (this_kind p.linked (owner_of p.linked.file n)) this → at.home < length p.linked.file.scripts → IsScope w.heap at.saved → Each (Exists p.linked w.heap) given → Each2 (IsOfKind p.linked w.heap) (map param_kind i.method.params) vs → Fares p w (framed p n i.method this at given vs w) Entered
+    pub framed_fares : (w : World) (n : ℕ) (r : Routine) (i : IsMethod p n r) (this : Value) (at : Place) (given vs : List Value) → WorldSound p w → routine_of p n ≡ Some r → IsOfKind p.linked w.heap (this_kind p.linked (owner_of p.linked.file n)) this → at.home < length p.linked.file.scripts → IsScope w.heap at.saved → Each (Exists p.linked w.heap) given → Each2 (IsOfKind p.linked w.heap) (map param_kind i.method.params) vs → Fares p w (frame_for p n i.method this at given vs w) Entered
     framed_fares w n r i this at given vs s body ht hh hs es hv =
         some_then p w (routine_of p n) r _ _ body
         (then_fares p w (extra p i.method given w) _ _ Entered (extra_fares w i.method given s es) (λ m os l ho.
@@ -173,7 +173,7 @@ module _ (p : Setting) (file : FileGiven p) (ops : OpsGiven p) where
         let r = b.routine in
         let i = file.methods n r b.body in
         some_then p w (method_of p n) i.method _ _ i.at
-        (then_fares p w (arguments p i.method given w) _ _ Entered (arguments_fares w n r i given s es) (λ m vs l hv.
+        (then_fares p w (arguments_for p i.method given w) _ _ Entered (arguments_fares w n r i given s es) (λ m vs l hv.
         framed_fares m n r i this at given vs l.sound b.body (kind_on p w.heap m.heap l.grows _ this ht) hh (scope_grown w.heap m.heap at.saved l.grows.grows hs) (values_on p w.heap m.heap l.grows given es) hv))
 
     -- where its owner keeps it
@@ -183,15 +183,15 @@ module _ (p : Setting) (file : FileGiven p) (ops : OpsGiven p) where
 
     -- ---- a script is started
 
-    started_leaves : (w : World) (s : ℕ) → WorldSound p w → Leaves p w (record w { started = set w.started s true })
+    started_leaves : (w : World) (s : ℕ) → WorldSound p w → LeavesSound p w (record w { started = set w.started s true })
     started_leaves w s z = record { sound = record { stands = z.stands; objects = z.objects; formulas = z.formulas; scripts = length-set w.started s true ∙ z.scripts; within = z.within }; grows = evolves_self w.heap }
 
-    pub global_kind : (w : World) (s : ℕ) → WorldSound p w → s < length p.linked.file.scripts → IsOfKind p.linked w.heap (object_of p.linked (parts.Global s)) (global s w)
+    pub global_kind : (w : World) (s : ℕ) → WorldSound p w → s < length p.linked.file.scripts → IsOfKind p.linked w.heap (kind_of_part p.linked (parts.Global s)) (global s w)
     global_kind w s z le =
         let g = global_made p.linked w.heap s z.stands le in
         record { exists = g.0; kind = (g.0, subst (λ x. IsBelow p.linked x (layout_of p.linked (parts.Global s)).0) (sym g.1.layout) (below_self p.linked (layout_of p.linked (parts.Global s)).0)) }
 
-    pub starts_fares : (w : World) (s : ℕ) → WorldSound p w → s < length p.linked.file.scripts → Fares p w (starts p s w) Entered
+    pub starts_fares : (w : World) (s : ℕ) → WorldSound p w → s < length p.linked.file.scripts → Fares p w (starts_script p s w) Entered
     starts_fares w s z le =
         let n : World = record w { started = set w.started s true } in
         let l = started_leaves w s z in

@@ -7,7 +7,7 @@ use Rattle.abc_heap_store.specs.Heap.{obj_id}
 use Rattle.abc_objects.specs.Objects.{global_number}
 use Rattle.abc_meaning_sound.proofs.Never.{given}
 use Rattle.abc_meaning_sound.proofs.Entered.{owned_fares}
-use Rattle.abc_meaning_sound.specs.Keeping.{Fares, IsError, Leaves, StopSound}
+use Rattle.abc_meaning_sound.specs.Keeping.{Fares, IsError, LeavesSound, StopSound}
 use Rattle.abc_meaning.specs.Setting.{Setting}
 use Rattle.abc_meaning.specs.World.{Errs, Faults, Fills, Outcome, Sticks, Stop, Stopped, Throws, Went, World}
 use Rattle.abc_meaning.specs.Throwing.{last_script}
@@ -16,7 +16,7 @@ use Rattle.abc_meaning_sound.specs.CallLaws.{CallsAreFair}
 use Rattle.abc_meaning_sound.proofs.Called.{numbers_exist}
 use Rattle.abc_meaning_sound.proofs.Exported.{owned_by_script}
 
-left : (p : Setting) (w n : World) → Leaves p w n → IsLeft p w n
+left : (p : Setting) (w n : World) → LeavesSound p w n → IsLeft p w n
 left p w n l = record { sound = l.sound; grows = l.grows.grows; limits = l.grows.limits }
 
 no_array : (c : HostClass) → IsError c → c ≢ hosts.Array

@@ -5,25 +5,25 @@ use Rattle.abc_base.specs.declared.names.HostClass.{HostClass}
 use Rattle.abc_base.specs.declared.names.HostClass.TheVariants as hosts
 use Rattle.abc_meaning_sound.proofs.Scoped.{scopes_given}
 use Rattle.abc_meaning_sound.proofs.Verified.{file_given}
-use Rattle.abc_meaning.specs.ThrowLaws.{IsVerified}
+use Rattle.abc_meaning.specs.ThrowLaws.{IsVerifiedSetting}
 use Rattle.abc_meaning.specs.Sound.{Typings}
 use Rattle.abc_meaning.specs.Step.{runs}
 use Rattle.abc_meaning.specs.Throwing.{last_script}
 use Rattle.abc_heap_values.specs.declared.values.Value.{Value}
-use Rattle.abc_objects.specs.Stands.{Each as EachAt}
+use Rattle.abc_objects.specs.Stands.{EachAt}
 use Rattle.abc_objects.specs.Values.{Exists}
 use Rattle.abc_meaning_sound.specs.ObjectLaws.{Given}
 use Rattle.abc_meaning_sound.proofs.Operated.{ops_given}
 use Rattle.abc_meaning_sound.proofs.Law.{groups_hold}
 use Rattle.abc_meaning_sound.proofs.Calls.{new_fares}
 use Rattle.abc_meaning_sound.proofs.Stepping.{runs_fares}
-use Rattle.abc_meaning_sound.specs.Keeping.{ActSound, Fares, IsError, Leaves, StopSound}
+use Rattle.abc_meaning_sound.specs.Keeping.{ActSound, Fares, IsError, LeavesSound, StopSound}
 use Rattle.abc_meaning_sound.proofs.Entered.{starts_fares}
 use Rattle.abc_frames.specs.Frame.{Frame}
 use Rattle.abc_verify_typing.specs.Lists.{Each}
 use Rattle.abc_meaning_sound.proofs.Makers.{makers_given}
 use Rattle.abc_meaning_sound.proofs.Searched.{search_given}
-use Rattle.abc_meaning.specs.Entering.{starts}
+use Rattle.abc_meaning.specs.Entering.{starts_script}
 use Rattle.abc_meaning.specs.Making.{new}
 use Rattle.abc_meaning.specs.Setting.{Setting, routine_of}
 use Rattle.abc_meaning.specs.World.{Errs, Faults, Fills, Outcome, Sticks, Stop, Stopped, Throws, Went, World}
@@ -33,7 +33,7 @@ use Rattle.abc_meaning_sound.proofs.Waited.{receiver_there}
 
 -- ---- what is given of a verified file
 
-given : (p : Setting) → IsVerified p → Given p
+given : (p : Setting) → IsVerifiedSetting p → Given p
 given p v =
     let file = file_given p v.linked in
     let scopes = scopes_given p v.linked in
@@ -41,7 +41,7 @@ given p v =
 
 -- ---- what is sound is fair
 
-left : (p : Setting) (w n : World) → Leaves p w n → IsLeft p w n
+left : (p : Setting) (w n : World) → LeavesSound p w n → IsLeft p w n
 left p w n l = record { sound = l.sound; grows = l.grows.grows; limits = l.grows.limits }
 
 no_array : (c : HostClass) → IsError c → c ≢ hosts.Array
@@ -89,7 +89,7 @@ pub starts_fair : StartsAreFair
 starts_fair p typings w v typed s =
     let g = given p v in
     let one = g.file.one_script in
-    part_fair p w (starts p (last_script p) w) _ (starts_fares p g.file g.ops typings typed w (last_script p) s.world (omega (arith, one)))
+    part_fair p w (starts_script p (last_script p) w) _ (starts_fares p g.file g.ops typings typed w (last_script p) s.world (omega (arith, one)))
 
 -- the two ways to say that something is so of each element
 each_by : (P : Value → Type 0) (vs : List Value) → EachAt P vs → Each P vs

@@ -26,7 +26,7 @@ use Rattle.abc_link_names.specs.Owners.{body_of, owner_of}
 use Rattle.abc_link_names.specs.Types.{type_if, type_in}
 use Rattle.abc_link_names.specs.Methods.{methods_with_bodies}
 use Rattle.abc_link_names.specs.PartsByNumber.{body_at, method_at, no_body, no_method}
-use Rattle.abc_link_names.specs.Starts.{int_at, raw_of, space_value, uint_at}
+use Rattle.abc_link_names.specs.Starts.{int_at, raw_of_option, space_value, uint_at}
 use Rattle.abc_link_names.specs.ItemTypes.{any_table, breaks_trait_not_run, breaks_unknown_type, own_type_fails, slot_type_fails}
 use Rattle.abc_link_names.specs.declared.items.ItemKind.{ItemKind}
 use Rattle.abc_link_names.specs.declared.items.ItemKind.TheVariants as items
@@ -35,7 +35,7 @@ use Rattle.abc_link_names.specs.declared.start.Raw.{Raw}
 use Rattle.abc_link_names.specs.declared.start.Raw.TheVariants as raws
 use Rattle.abc_link_names.specs.Items.{count_of}
 use Rattle.abc_verify_typing.specs.Instructions.{opcode, targets}
-use Rattle.abc_verify_typing.specs.Rows.{Shape, find, row_at, table}
+use Rattle.abc_verify_typing.specs.Rows.{Shape, find, row_at, table_of_rows}
 use Rattle.abc_verify_typing.specs.declared.row.Leads.{Leads as Leading}
 use Rattle.abc_verify_typing.specs.declared.row.Leads.TheVariants.{Next, Branches, Jumps, Switches, Ends}
 use Rattle.abc_file_types.specs.Bodies.{IsReadyBody}
@@ -58,7 +58,7 @@ use Rattle.abc_verify_typing.specs.Lists.{Each}
 use Rattle.abc_verify_typing.specs.Routines.{Routine, filled_by, routine}
 use Rattle.abc_verify_typing.proofs.Lists.{Each-append, Each-map}
 use Rattle.abc_verify_typing.proofs.Member.{and_left, and_right}
-use Rattle.abc_meaning.specs.Setting.{Setting, raw_value, routine_in, routine_of, string_of}
+use Rattle.abc_meaning.specs.Setting.{Setting, value_of_raw, routine_in, routine_of, string_of}
 use Rattle.abc_meaning.specs.Simple.{whole}
 use Rattle.abc_meaning_sound.specs.Given.{HasTarget, IsFormed, IsMethod, IsType, OptionExists}
 use Rattle.abc_meaning_sound.proofs.Lists.{inside}
@@ -134,13 +134,13 @@ find_fits op (r ∷ rs) row a e = go (λ f. find_fits op rs row (and_right (lead
         subst (λ (k : ℕ). leads_fit row.leads (form_at k) ≡ true) (sym same) (subst (λ (x : Shape). leads_fit x.leads (form_at r.0) ≡ true) it (and_left (leads_fit r.1.leads (form_at r.0)) (list_all (λ (x : ℕ × Shape). leads_fit x.1.leads (form_at x.0)) rs) a))
     go more false q f = more f
 
-all_fit : list_all (λ (r : ℕ × Shape). leads_fit r.1.leads (form_at r.0)) table ≡ true
-unfolding table form_at info_at
+all_fit : list_all (λ (r : ℕ × Shape). leads_fit r.1.leads (form_at r.0)) table_of_rows ≡ true
+unfolding table_of_rows form_at info_at
 all_fit = refl
 
 row_fits : (op : ℕ) (row : Shape) (form : Form) → row_at op ≡ Some row → form_at op ≡ Some form → leads_fit row.leads (Some form) ≡ true
 unfolding row_at
-row_fits op row form e f = sym (ap (leads_fit row.leads) f) ∙ find_fits op table row all_fit e
+row_fits op row form e f = sym (ap (leads_fit row.leads) f) ∙ find_fits op table_of_rows row all_fit e
 
 no_branch : (form : Form) → is_branch (Some form) ≡ true → goes_on form ≡ true → ⊥
 no_branch forms.Plain e g = cc
@@ -298,7 +298,7 @@ module _ (p : Setting) (linked : IsLinkedFile p.linked) where
       go true q = tt
       go false q = (positive n q, leb-true n _ e)
 
-  raw_there : (kind : ValueKind) (n : ℕ) → has_value (sizes_of p.linked.file) n kind ≡ true → RawThere (raw_of p.linked.file kind n)
+  raw_there : (kind : ValueKind) (n : ℕ) → has_value (sizes_of p.linked.file) n kind ≡ true → RawThere (raw_of_option p.linked.file kind n)
   raw_there kinds.Undefined n e = tt
   raw_there kinds.Utf8 n e = tt
   raw_there kinds.Int n e = int_there p.linked.file (stored p.linked.file linked.fits) n
@@ -315,7 +315,7 @@ module _ (p : Setting) (linked : IsLinkedFile p.linked) where
   raw_there kinds.Explicit n e = space_there n e
   raw_there kinds.StaticProtected n e = space_there n e
 
-  value_there : (h : Heap) (r : Raw) (v : Value) → RawThere r → raw_value p r ≡ Some v → Exists p.linked h v
+  value_there : (h : Heap) (r : Raw) (v : Value) → RawThere r → value_of_raw p r ≡ Some v → Exists p.linked h v
   value_there h raws.Undefined v t e = let same : values.Undefined ≡ v = cc in subst (Exists p.linked h) same tt
   value_there h raws.Null v t e = let same : values.Null ≡ v = cc in subst (Exists p.linked h) same tt
   value_there h (raws.Int z) v t e = let same : values.Num z ≡ v = cc in subst (Exists p.linked h) same t
@@ -329,7 +329,7 @@ module _ (p : Setting) (linked : IsLinkedFile p.linked) where
   options_there [] a = tt
   options_there (o ∷ os) a =
       let fits = (option_fits (sizes_of p.linked.file) o).0 a.0 in
-      (λ h v s e. value_there h (raw_of p.linked.file o.kind o.value) v (raw_there o.kind o.value fits.1) e, options_there os a.1)
+      (λ h v s e. value_there h (raw_of_option p.linked.file o.kind o.value) v (raw_there o.kind o.value fits.1) e, options_there os a.1)
 
   no_options : (n : ℕ) → Each (OptionExists p) (replicate n None)
   no_options zero = tt

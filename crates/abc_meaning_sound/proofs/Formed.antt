@@ -3,7 +3,7 @@ use Rattle.std.proofs.Common.{◌≡◌, ℕ, ◌<◌, ◌^◌, List, [], ◌∷
 use Rattle.std.proofs.lemmas.Bool.{ltb-true}
 use Rattle.std.specs.Prelude.{Bool, true, false, nat_eq, nat_lt, Some, if◌then◌else◌}
 use Rattle.std.specs.List.{list_all}
-use Rattle.abc_verify_typing.specs.Rows.{Shape, find, row_at, table}
+use Rattle.abc_verify_typing.specs.Rows.{Shape, find, row_at, table_of_rows}
 use Rattle.abc_verify_typing.proofs.Member.{and_left, and_right}
 
 abbrev is_byte : ℕ × Shape → Bool
@@ -17,10 +17,10 @@ find_low (r ∷ rows) op row a e = go (λ f. find_low rows op row (and_right (is
     go more true q f = subst (λ (n : ℕ). n < 256) (sym (eqb-true op r.0 q)) (ltb-true r.0 256 (and_left (is_byte r) (list_all is_byte rows) a))
     go more false q f = more f
 
-all_bytes : list_all is_byte table ≡ true
-unfolding table
+all_bytes : list_all is_byte table_of_rows ≡ true
+unfolding table_of_rows
 all_bytes = refl
 
 pub row_low : (op : ℕ) (row : Shape) → row_at op ≡ Some row → op < 2 ^ 8
 unfolding row_at
-row_low op row e = let low = find_low table op row all_bytes e in omega (arith, low)
+row_low op row e = let low = find_low table_of_rows op row all_bytes e in omega (arith, low)

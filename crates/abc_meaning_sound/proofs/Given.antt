@@ -18,12 +18,12 @@ use Rattle.abc_file_types.specs.declared.code.Handler.{Handler}
 use Rattle.abc_meaning_sound.proofs.Never.{are_typings, stays_sound, typings}
 use Rattle.abc_meaning.specs.Objects.{new_of_host}
 use Rattle.abc_meaning.specs.Setting.{Setting, routine_of}
-use Rattle.abc_meaning.specs.World.{Errs, Faults, Fills, Outcome, Run, Sticks, Stop, Stopped, Throws, Went, World, done, stop, ◌>>◌}
-use Rattle.abc_meaning.specs.ThrowLaws.{IsVerified}
+use Rattle.abc_meaning.specs.World.{Errs, Faults, Fills, Outcome, Run, Sticks, Stop, Stopped, Throws, Went, World, pure, stop, ◌>>◌}
+use Rattle.abc_meaning.specs.ThrowLaws.{IsVerifiedSetting}
 use Rattle.abc_meaning.specs.Sound.{AreTypings, IsSound, SteppedSound, Typings}
-use Rattle.abc_meaning.specs.Step.{acted, gives_back, put_on, puts, resumed, resumes, runs, settles, size_of_frame, size_of_frames, step}
+use Rattle.abc_meaning.specs.Step.{after_act, gives_back, put_on, puts, after_resume, resumes, runs, settles, size_of_frame, size_of_frames, step}
 use Rattle.abc_meaning.specs.Throwing.{Done, End, Ends, FuelSpent, Full, Machine, Profile, Stepped, Steps, Stuck, Uncaught, catcher, caught_at, goes_on, has_stack, lands, stops, throws_made, unwinds}
-use Rattle.abc_meaning.specs.Calls.{Gives, Replied, begins_call, call_meaning, replies_for, returned, silent, then_replies, value_returned}
+use Rattle.abc_meaning.specs.Calls.{Gives, Replied, begins_call, call_meaning, replies_for, value_at_end, silent, then_replies, value_returned}
 use Rattle.abc_meaning_sound.specs.CallLaws.{CallsGiveThere}
 use Rattle.abc_meaning_sound.proofs.Called.{call_begins}
 use Rattle.abc_meaning_sound.proofs.Left.{silent_sound}
@@ -62,7 +62,7 @@ module _ (p : Setting) (u : World) where
   stops_on w f fs Sticks d = cc
 
   abbrev within : Bool → Limit → Run (Unit {0})
-  within b which = if b then done tt else stop (Fills which)
+  within b which = if b then pure tt else stop (Fills which)
 
   puts_on : (w : World) (g f : Frame) (fs : List Frame) → IsDone (puts p w g (f ∷ fs)) u → ⊥
   puts_on w g f fs d = go (nat_le (length (f ∷ fs) + 1) w.heap.limits.frames) (nat_le (size_of_frames p (f ∷ fs) + size_of_frame p g) w.heap.limits.stack) d
@@ -76,7 +76,7 @@ module _ (p : Setting) (u : World) where
   settles_on w fs (Stays f) d = cc
   settles_on w fs (Above g f) d = puts_on w g f fs d
 
-  resumed_on : (f : Frame) (fs : List Frame) (o : Outcome Top) → IsDone (resumed p f fs o) u → ⊥
+  resumed_on : (f : Frame) (fs : List Frame) (o : Outcome Top) → IsDone (after_resume p f fs o) u → ⊥
   resumed_on f fs (Went w top) d = settles_on w fs top d
   resumed_on f fs (Stopped w why) d = stops_on w f fs why d
 
@@ -85,7 +85,7 @@ module _ (p : Setting) (u : World) where
   returns_there n v [] x d = let same : n ≡ u = cc in subst (λ (w : World). Exists p.linked w.heap v) same x
   returns_there n v (f ∷ fs) x d = absurd (resumed_on f fs (resumes p (waiting waits.Not f) f.wait v n) d)
 
-  value_there : (w : World) (f : Frame) (fs : List Frame) (o : Outcome Act) → IsFairAs p f w o → IsDone (acted p f fs o) u → Exists p.linked u.heap (value_returned o)
+  value_there : (w : World) (f : Frame) (fs : List Frame) (o : Outcome Act) → IsFairAs p f w o → IsDone (after_act p f fs o) u → Exists p.linked u.heap (value_returned o)
   value_there w f fs (Went n (Goes top)) fair d = tt
   value_there w f fs (Went n (Returns v)) fair d = returns_there n v fs fair.1 d
   value_there w f fs (Stopped n why) fair d = tt
@@ -104,8 +104,8 @@ ended_there p x w FuelSpent go h v q = absurd cc
 ended_there p x w (Full limit) go h v q = absurd cc
 ended_there p x w Stuck go h v q = absurd cc
 
-module _ (p : Setting) (types : Typings) (verified : IsVerified p) (typed : AreTypings p types) where
-  returned_there : (w u : World) (fs : List Frame) → IsSound p types (record { world = w; frames = fs }) → IsDone (step p (record { world = w; frames = fs })) u → Exists p.linked u.heap (returned p w fs)
+module _ (p : Setting) (types : Typings) (verified : IsVerifiedSetting p) (typed : AreTypings p types) where
+  returned_there : (w u : World) (fs : List Frame) → IsSound p types (record { world = w; frames = fs }) → IsDone (step p (record { world = w; frames = fs })) u → Exists p.linked u.heap (value_at_end p w fs)
   returned_there w u [] s d = tt
   returned_there w u (f ∷ fs) s d = value_there p u w f fs (runs p f (routine_of p f.method) w) (acts_fair p types w f fs verified typed s).0 d
 
@@ -116,7 +116,7 @@ module _ (p : Setting) (types : Typings) (verified : IsVerified p) (typed : AreT
   replies_there : (fuel : ℕ) (q : Machine) → IsSound p types q → GivesThere p (replies_for p fuel q)
   replies_there zero q s v e = absurd cc
   replies_there (suc fuel) q s v e =
-      then_there (returned p q.world q.frames) (step p q) (replies_for p fuel) (stays_sound p types q verified typed s) (λ w d. returned_there q.world w q.frames s d) (λ n t. replies_there fuel n t) v e
+      then_there (value_at_end p q.world q.frames) (step p q) (replies_for p fuel) (stays_sound p types q verified typed s) (λ w d. returned_there q.world w q.frames s d) (λ n t. replies_there fuel n t) v e
 
 pub calls_give : CallsGiveThere
 unfolding call_meaning

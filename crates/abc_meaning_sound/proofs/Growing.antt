@@ -27,8 +27,8 @@ use Rattle.abc_frames.specs.Frame.{Frame}
 use Rattle.abc_meaning.specs.Setting.{Setting}
 use Rattle.abc_frames.specs.declared.records.Wait.{Wait}
 use Rattle.abc_frames.specs.declared.records.Wait.TheVariants as waits
-use Rattle.abc_meaning.specs.At.{next, pushed}
-use Rattle.abc_meaning.specs.Sound.{AreMade, FrameSound, IsBound, IsCatching, IsFirstOf, IsMade, IsOfKind, IsOfState, IsTyped, IsTypedPushed, ObjectSound, PartSound, ScopeHolds, SlotHolds, Stands, Typings, WaitSound, WaitingSound, WhatSound}
+use Rattle.abc_meaning.specs.At.{next_frame, after_pushes}
+use Rattle.abc_meaning.specs.Sound.{AreClassesMade, FrameSound, IsBound, IsCatching, IsFirstOf, HasClassMade, IsOfKind, IsOfState, IsFrameTyped, IsTypedPushed, ObjectSound, PartSound, ScopeHolds, SlotHolds, FrameStands, Typings, WaitSound, WaitingSound, WhatSound}
 use Rattle.abc_meaning.proofs.ValueKinds.{kind_up, kinds_up}
 use Rattle.abc_meaning_sound.specs.Keeping.{Evolves}
 
@@ -60,11 +60,11 @@ module _ (p : Setting) (a b : Heap) (g : Evolves a b) where
   pub state_on : (s : State) (f : Frame) → IsOfState p.linked a s f → IsOfState p.linked b s f
   state_on s f h = record { stack = kinds_on s.stack f.stack h.stack; scopes = scopes_on s.scopes f.scopes h.scopes; locals = kinds_on s.locals f.locals h.locals }
 
-  pub stands_on : (f : Frame) → Stands p a f → Stands p b f
+  pub stands_on : (f : Frame) → FrameStands p a f → FrameStands p b f
   stands_on f s = record { routine = s.routine; body = s.body; home = s.home; saved = scope_grown a b f.saved g.grows s.saved; locals = s.locals; stack = s.stack; scopes = s.scopes }
 
   module _ (typings : Typings) where
-    pub typed_on : (f : Frame) → IsTyped p typings a f → IsTyped p typings b f
+    pub typed_on : (f : Frame) → IsFrameTyped p typings a f → IsFrameTyped p typings b f
     typed_on f t = record { state = t.state; typed = t.typed; is = state_on t.state f t.is }
 
     pub pushed_on : (f : Frame) → IsTypedPushed p typings a f → IsTypedPushed p typings b f
@@ -72,8 +72,8 @@ module _ (p : Setting) (a b : Heap) (g : Evolves a b) where
 
     pub wait_on : (f : Frame) (x : Wait) → WaitSound p typings a f x → WaitSound p typings b f x
     wait_on f waits.Push h = pushed_on f h
-    wait_on f waits.Drop h = typed_on (next f) h
-    wait_on f (waits.Keep v) h = typed_on (pushed (v ∷ []) f) h
+    wait_on f waits.Drop h = typed_on (next_frame f) h
+    wait_on f (waits.Keep v) h = typed_on (after_pushes (v ∷ []) f) h
     wait_on f waits.Again h = typed_on f h
     wait_on f (waits.New n) h = record { there = h.there; exist = values_on _ h.exist; typed = pushed_on _ h.typed }
     wait_on f waits.Not h = h
@@ -92,10 +92,10 @@ module _ (p : Setting) (a b : Heap) (g : Evolves a b) where
 
   -- ---- objects
 
-  made_on : (k : ℕ) → IsMade a k → IsMade b k
+  made_on : (k : ℕ) → HasClassMade a k → HasClassMade b k
   made_on k h = (h.0, g.classes k h.0 h.1)
 
-  pub all_made_on : (k : ℕ) → AreMade p.linked a k → AreMade p.linked b k
+  pub all_made_on : (k : ℕ) → AreClassesMade p.linked a k → AreClassesMade p.linked b k
   all_made_on k h = record { own = made_on k h.own; bases = λ j way. made_on j (h.bases j way) }
 
   pub part_on : (x : Part) → PartSound p.linked a x → PartSound p.linked b x

@@ -27,7 +27,7 @@ use Rattle.abc_objects.specs.Values.{IsObject}
 use Rattle.abc_objects.proofs.Made.{object_slots, part_found}
 use Rattle.abc_objects.proofs.Opened.{scope_made}
 use Rattle.abc_objects.proofs.Started.{part_has}
-use Rattle.abc_link_names.specs.Linked.{IsLinkedFile, LinkedFile, above, base, layout_of}
+use Rattle.abc_link_names.specs.Linked.{IsLinkedFile, LinkedFile, above, base_layout, layout_of}
 use Rattle.abc_link_names.specs.Numbering.{part_at}
 use Rattle.abc_link_names.specs.Owners.{naming, namings, namings_among, namings_in}
 use Rattle.abc_link_names.specs.Parts.{HasLayout, base_part, parent}
@@ -55,7 +55,7 @@ use Rattle.abc_file_types.specs.declared.traits.TraitBody.{TraitBody}
 use Rattle.abc_file_types.specs.declared.traits.TraitBody.TheVariants as bodies
 use Rattle.abc_file_types.specs.declared.traits.TraitInfo.{TraitInfo}
 use Rattle.abc_verify_typing.specs.Lists.{Each}
-use Rattle.abc_verify_typing.specs.Routines.{object_of, this_kind}
+use Rattle.abc_verify_typing.specs.Routines.{kind_of_part, this_kind}
 use Rattle.abc_verify_typing.specs.Typing.{In}
 use Rattle.abc_verify_typing.proofs.Good.{good}
 use Rattle.abc_verify_typing.proofs.Lists.{Each-append}
@@ -63,7 +63,7 @@ use Rattle.abc_verify_typing.proofs.Member.{in_append, in_left, in_right}
 use Rattle.abc_meaning.specs.Objects.{Place, place, place_of_owner}
 use Rattle.abc_meaning.specs.Setting.{Setting}
 use Rattle.abc_meaning.specs.World.{Went, World}
-use Rattle.abc_meaning.specs.Sound.{IsFirstOf, IsMade, IsOfKind, PartSound, WorldSound}
+use Rattle.abc_meaning.specs.Sound.{IsFirstOf, HasClassMade, IsOfKind, PartSound, WorldSound}
 use Rattle.abc_meaning_sound.specs.Given.{FileGiven, HasBody, OwnedSound, ScopesGiven}
 use Rattle.abc_link_names.specs.ClassBases.{BaseKnown}
 use Rattle.abc_meaning_sound.proofs.Growing.{first_is}
@@ -197,18 +197,18 @@ module _ (l : LinkedFile) (linked : IsLinkedFile l) where
   abbrev own_of : ℕ → List SlotInfo
   own_of y = own_slots l (part_at l.parts y)
 
-  slots_parts : (x : ℕ) → length (slots_of l x) ≡ slots_under l (base l x) + length (own_of x)
+  slots_parts : (x : ℕ) → length (slots_of l x) ≡ slots_under l (base_layout l x) + length (own_of x)
   slots_parts x =
-      ap length (heritage_some (base l) own_of (falling l.file l.parts linked.numbering) x) ∙ length-append (heritage (base l) own_of (base l x)) (own_of x) ∙ ap (λ (n : ℕ). n + length (own_of x)) (go (base l x))
+      ap length (heritage_some (base_layout l) own_of (falling l.file l.parts linked.numbering) x) ∙ length-append (heritage (base_layout l) own_of (base_layout l x)) (own_of x) ∙ ap (λ (n : ℕ). n + length (own_of x)) (go (base_layout l x))
     where
-      go : (o : Option ℕ) → length (heritage (base l) own_of o) ≡ slots_under l o
-      go None = ap length (heritage_none (base l) own_of)
+      go : (o : Option ℕ) → length (heritage (base_layout l) own_of o) ≡ slots_under l o
+      go None = ap length (heritage_none (base_layout l) own_of)
       go (Some b) = refl
 
   slots_above : (y : ℕ) → length (slots_of l (above l y)) ≤ length (slots_of l y)
-  slots_above y = go (base l y) refl
+  slots_above y = go (base_layout l y) refl
     where
-      go : (o : Option ℕ) → base l y ≡ o → length (slots_of l (above l y)) ≤ length (slots_of l y)
+      go : (o : Option ℕ) → base_layout l y ≡ o → length (slots_of l (above l y)) ≤ length (slots_of l y)
       go None e =
           let up_is : above l y ≡ 0 = ap (λ (b : Option ℕ). unwrap_or b 0) e in
           let g = good l linked in
@@ -218,7 +218,7 @@ module _ (l : LinkedFile) (linked : IsLinkedFile l) where
       go (Some b) e =
           let up_is : above l y ≡ b = ap (λ (x : Option ℕ). unwrap_or x 0) e in
           let parts_are = slots_parts y in
-          let under : slots_under l (base l y) ≡ length (slots_of l (above l y)) = ap (slots_under l) e ∙ ap (λ (x : ℕ). length (slots_of l x)) (sym up_is) in
+          let under : slots_under l (base_layout l y) ≡ length (slots_of l (above l y)) = ap (slots_under l) e ∙ ap (λ (x : ℕ). length (slots_of l x)) (sym up_is) in
           omega (arith, parts_are, under)
 
   slots_up : (s y : ℕ) → length (slots_of l (up l s y)) ≤ length (slots_of l y)
@@ -256,11 +256,11 @@ module _ (p : Setting) (file : FileGiven p) (scopes : ScopesGiven p) (w : World)
   part_layout : (x : ℕ) (q : Part) → part_at l.parts x ≡ q → IsBelow l own_layout x → IsBelow l own_layout (layout_of l q).0
   part_layout x q e b = subst (IsBelow l own_layout) (first_below x b ∙ ap (λ (r : Part). (layout_of l r).0) e) b
 
-  is_this : (q : Part) → IsBelow l own_layout (layout_of l q).0 → IsOfKind l w.heap (object_of l q) (Obj o)
+  is_this : (q : Part) → IsBelow l own_layout (layout_of l q).0 → IsOfKind l w.heap (kind_of_part l q) (Obj o)
   is_this q b = record { exists = inner; kind = (inner, b) }
 
   -- a method of an owner that is a part above
-  owned : (n : Naming) (q : Part) → n.method < length l.file.methods → HasBody p n.method → In n (namings l.file) → this_kind l n.owner ≡ object_of l q → IsBelow l own_layout (layout_of l q).0
+  owned : (n : Naming) (q : Part) → n.method < length l.file.methods → HasBody p n.method → In n (namings l.file) → this_kind l n.owner ≡ kind_of_part l q → IsBelow l own_layout (layout_of l q).0
       → (at : Place) → place_of_owner n.owner w ≡ Went w at → at.home < length l.file.scripts → IsScope w.heap at.saved → OwnedSound p w n.method o
   owned n q low body h kind b at kept home saved =
       let is = owned_by p file.linked n low h in
@@ -283,7 +283,7 @@ module _ (p : Setting) (file : FileGiven p) (scopes : ScopesGiven p) (w : World)
       let u = under_class l file.linked own_layout k layout_low has below in
       let sound : PartSound l w.heap (parts.Instance u.class) = subst (PartSound l w.heap) u.part (z.objects o.0 ob at_ob).part in
       let plain : is_interface l.file k ≡ false = elim u.is [ inl same ↦ subst (λ (c : ℕ). is_interface l.file c ≡ false) same sound.0 | inr way ↦ (leads_plain l file.linked u.class k u.low way).0 ] in
-      let made : IsMade w.heap k = elim u.is [ inl same ↦ subst (IsMade w.heap) same sound.1.own | inr way ↦ sound.1.bases k way ] in
+      let made : HasClassMade w.heap k = elim u.is [ inl same ↦ subst (HasClassMade w.heap) same sound.1.own | inr way ↦ sound.1.bases k way ] in
       let kept = (class_keeps p file scopes w k z has made).0 in
       owned (naming (owners.Instance k) m) (parts.Instance k) low
       (has_body p file.linked m low (of_instance_run p file.linked k m has plain (inr h)))
@@ -381,8 +381,8 @@ module _ (p : Setting) (file : FileGiven p) (scopes : ScopesGiven p) (w : World)
   own_sound : (x : ℕ) → IsBelow l own_layout x → Each TraitSound (own l x)
   own_sound x b =
       let up_to : length (slots_of l x) ≤ length (slots_of l own_layout) = subst (λ (y : ℕ). length (slots_of l y) ≤ length (slots_of l own_layout)) b.climb (slots_up l file.linked b.steps own_layout) in
-      let parts_are : length (slots_of l x) ≡ slots_under l (base l x) + length (own_slots l (part_at l.parts x)) = slots_parts l file.linked x in
-      part_sound x (slots_under l (base l x)) (part_at l.parts x) refl b (omega (arith, up_to, parts_are))
+      let parts_are : length (slots_of l x) ≡ slots_under l (base_layout l x) + length (own_slots l (part_at l.parts x)) = slots_parts l file.linked x in
+      part_sound x (slots_under l (base_layout l x)) (part_at l.parts x) refl b (omega (arith, up_to, parts_are))
 
   -- ---- the candidates
 
@@ -398,16 +398,16 @@ module _ (p : Setting) (file : FileGiven p) (scopes : ScopesGiven p) (w : World)
   along passed [] a = tt
   along passed (x ∷ xs) a = Each-append CandidateSound (map (OfTrait x (passed ++ x ∷ [])) (own l x)) (traits_after l (passed ++ x ∷ []) xs) (each_of x (passed ++ x ∷ []) (own l x) (own_sound x a.0)) (along (passed ++ x ∷ []) xs a.1)
 
-  way_below : (n x : ℕ) → x < n → IsBelow l own_layout x → Each (IsBelow l own_layout) (way (base l) (Some x))
+  way_below : (n x : ℕ) → x < n → IsBelow l own_layout x → Each (IsBelow l own_layout) (way (base_layout l) (Some x))
   way_below zero x low b = absurd (omega (arith, low))
   way_below (suc n) x low b =
       let f = falling l.file l.parts file.linked.numbering in
-      subst (Each (IsBelow l own_layout)) (sym (way_some (base l) f x)) (b, go (λ y less c. way_below n y (omega (arith, less, low)) c) (base l x) refl (λ y e. f.falls x y e))
+      subst (Each (IsBelow l own_layout)) (sym (way_some (base_layout l) f x)) (b, go (λ y less c. way_below n y (omega (arith, less, low)) c) (base_layout l x) refl (λ y e. f.falls x y e))
     where
-      go : ((y : ℕ) → y < x → IsBelow l own_layout y → Each (IsBelow l own_layout) (way (base l) (Some y))) → (q : Option ℕ) → base l x ≡ q → ((y : ℕ) → q ≡ Some y → y < x) → Each (IsBelow l own_layout) (way (base l) q)
-      go more None e g = subst (Each (IsBelow l own_layout)) (sym (way_none (base l))) tt
+      go : ((y : ℕ) → y < x → IsBelow l own_layout y → Each (IsBelow l own_layout) (way (base_layout l) (Some y))) → (q : Option ℕ) → base_layout l x ≡ q → ((y : ℕ) → q ≡ Some y → y < x) → Each (IsBelow l own_layout) (way (base_layout l) q)
+      go more None e g = subst (Each (IsBelow l own_layout)) (sym (way_none (base_layout l))) tt
       go more (Some y) e g =
           more y (g y refl) (subst (IsBelow l own_layout) (ap (λ (q : Option ℕ). unwrap_or q 0) e) (below_above l own_layout x b))
 
   pub traits_sound : (from : ℕ) → IsBelow l own_layout from → Each CandidateSound (traits l own_layout from)
-  traits_sound from b = along (before from (way (base l) (Some own_layout))) (way (base l) (Some from)) (way_below (suc from) from (omega arith) b)
+  traits_sound from b = along (before from (way (base_layout l) (Some own_layout))) (way (base_layout l) (Some from)) (way_below (suc from) from (omega arith) b)

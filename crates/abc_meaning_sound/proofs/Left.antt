@@ -4,17 +4,17 @@ use Rattle.abc_heap_values.specs.declared.values.Value.{Value}
 use Rattle.abc_heap_values.specs.declared.values.Value.TheVariants.{Undefined}
 use Rattle.abc_meaning.specs.Setting.{Setting}
 use Rattle.abc_meaning.specs.World.{World}
-use Rattle.abc_meaning.specs.ThrowLaws.{IsVerified}
+use Rattle.abc_meaning.specs.ThrowLaws.{IsVerifiedSetting}
 use Rattle.abc_meaning.specs.Meaning.{Ended, runs_for, then_runs}
 use Rattle.abc_meaning.specs.Sound.{AreTypings, IsSound, SteppedSound, Typings, WorldSound}
 use Rattle.abc_meaning.specs.Step.{step}
 use Rattle.abc_meaning.specs.Throwing.{Done, End, Ends, FuelSpent, Full, Machine, Profile, Stepped, Steps, Stuck, Uncaught}
 use Rattle.abc_meaning_sound.proofs.Never.{stays_sound}
-use Rattle.abc_meaning.specs.Calls.{EndsAs, Replied, begins_call, call_meaning, replies_for, returned, silent, then_replies}
+use Rattle.abc_meaning.specs.Calls.{EndsAs, Replied, begins_call, call_meaning, replies_for, value_at_end, silent, then_replies}
 use Rattle.abc_meaning_sound.specs.CallLaws.{CallsLeaveSound, RunsLeaveSound}
 use Rattle.abc_meaning_sound.proofs.Called.{call_begins}
 
-module _ (p : Setting) (typings : Typings) (v : IsVerified p) (typed : AreTypings p typings) where
+module _ (p : Setting) (typings : Typings) (v : IsVerifiedSetting p) (typed : AreTypings p typings) where
   then_left : (s : Stepped) (go : Machine → Ended) → SteppedSound p typings s → ((q : Machine) → IsSound p typings q → WorldSound p (go q).world) → WorldSound p (then_runs s go).world
   then_left (Steps q) go h g = g q h
   then_left (Ends w e) go h g = h.1
@@ -41,7 +41,7 @@ module _ (p : Setting) (typings : Typings) (v : IsVerified p) (typed : AreTyping
 
   replies_left : (fuel : ℕ) (q : Machine) → IsSound p typings q → RepliedSound (replies_for p fuel q)
   replies_left zero q h = (h.world, λ e. absurd cc)
-  replies_left (suc fuel) q h = then_replied (returned p q.world q.frames) (step p q) (replies_for p fuel) (stays_sound p typings q v typed h) (λ n s. replies_left fuel n s)
+  replies_left (suc fuel) q h = then_replied (value_at_end p q.world q.frames) (step p q) (replies_for p fuel) (stays_sound p typings q v typed h) (λ n s. replies_left fuel n s)
 
 pub runs_left : RunsLeaveSound
 runs_left p typings fuel q v typed h = run_left p typings v typed fuel q h

@@ -3,7 +3,7 @@ use Rattle.std.proofs.Common.{◌≡◌, ◌⊎◌, inl, inr, ℕ, zero, suc, �
 use Rattle.std.specs.Prelude.{slice_get, Some}
 use Rattle.abc_heap_store.specs.Changes.{change}
 use Rattle.abc_heap_store.specs.Heap.{Object, all_cells, cells_of, object_at}
-use Rattle.abc_objects.specs.Stands.{Each as EachAt}
+use Rattle.abc_objects.specs.Stands.{EachAt}
 use Rattle.abc_verify_typing.specs.Lists.{Each, Each2}
 
 pub cells_append : (xs ys : List Object) → all_cells (xs ++ ys) ≡ all_cells xs + all_cells ys

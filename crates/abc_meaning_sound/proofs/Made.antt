@@ -7,7 +7,7 @@ use Rattle.abc_base.specs.declared.names.HostClass.TheVariants as hosts
 use Rattle.abc_heap_values.specs.declared.values.ObjId.{ObjId}
 use Rattle.abc_heap_values.specs.declared.values.Value.{Value}
 use Rattle.abc_heap_values.specs.declared.values.Value.TheVariants.{Obj}
-use Rattle.abc_heap_store.specs.Changes.{bare, with_made, with_more_elements, with_more_slots, with_object, with_scopes}
+use Rattle.abc_heap_store.specs.Changes.{bare_object, with_made, with_more_elements, with_more_slots, with_object, with_scopes}
 use Rattle.abc_heap_store.specs.Heap.{Heap, Object, cells_of, cells_used, object_at}
 use Rattle.abc_heap_store.specs.Scopes.{nodes}
 use Rattle.abc_heap_store.specs.declared.records.ScopeEntry.{ScopeEntry}
@@ -32,16 +32,16 @@ use Rattle.abc_verify_typing.proofs.Lists.{slice_get-pushed}
 use Rattle.abc_meaning.specs.Objects.{new_array, new_function, new_object, new_of_host, prototype_for, top_scope}
 use Rattle.abc_meaning.specs.Setting.{Setting}
 use Rattle.abc_meaning.specs.World.{World}
-use Rattle.abc_meaning.specs.Sound.{IsFirstOf, IsOfKind, IsWithin, ObjectSound, PartSound, SlotHolds, WhatSound, WorldSound}
+use Rattle.abc_meaning.specs.Sound.{IsFirstOf, IsOfKind, IsHeapWithin, ObjectSound, PartSound, SlotHolds, WhatSound, WorldSound}
 use Rattle.abc_meaning_sound.specs.Given.{FileGiven}
-use Rattle.abc_meaning_sound.specs.Keeping.{Evolves, Fares, Leaves}
+use Rattle.abc_meaning_sound.specs.Keeping.{Evolves, Fares, LeavesSound}
 use Rattle.abc_meaning_sound.proofs.Faring.{cells_then, objects_then, went_fares}
 use Rattle.abc_meaning_sound.proofs.Growing.{evolves_on, first_is, object_on, part_on, what_on}
 use Rattle.abc_meaning_sound.proofs.Lists.{cells_append, change_at, change_cells, change_long, each_at}
 
 module _ (p : Setting) where
   -- another heap, which grew and whose objects are sound
-  pub heap_leaves : (w : World) (h : Heap) → WorldSound p w → StandsOver p.linked h → Evolves w.heap h → ((o : ℕ) (ob : Object) → slice_get h.objects o ≡ Some ob → ObjectSound p h ob) → IsWithin h → Leaves p w (record w { heap = h })
+  pub heap_leaves : (w : World) (h : Heap) → WorldSound p w → StandsOver p.linked h → Evolves w.heap h → ((o : ℕ) (ob : Object) → slice_get h.objects o ≡ Some ob → ObjectSound p h ob) → IsHeapWithin h → LeavesSound p w (record w { heap = h })
   heap_leaves w h s stands g objects within = record { sound = record { stands = stands; objects = objects; formulas = g.grows.formulas ∙ s.formulas; scripts = s.scripts; within = within }; grows = g }
 
   -- ---- a text more
@@ -49,7 +49,7 @@ module _ (p : Setting) where
   made_evolves : (h : Heap) (more : List ℕ) → Evolves h (record h { made = h.made ++ more })
   made_evolves h more = record { grows = made_grows h more; classes = λ k o e. e; limits = refl }
 
-  pub text_leaves : (w : World) (more : List ℕ) → WorldSound p w → length w.heap.made + length more ≤ w.heap.limits.text → Leaves p w (record w { heap = record w.heap { made = w.heap.made ++ more } })
+  pub text_leaves : (w : World) (more : List ℕ) → WorldSound p w → length w.heap.made + length more ≤ w.heap.limits.text → LeavesSound p w (record w { heap = record w.heap { made = w.heap.made ++ more } })
   text_leaves w more s b =
       let h = record w.heap { made = w.heap.made ++ more } in
       let g = made_evolves w.heap more in
@@ -65,13 +65,13 @@ module _ (p : Setting) where
   pub added_evolves : (h : Heap) (ob : Object) → Evolves h (added ob h)
   added_evolves h ob = record { grows = added_grows h ob; classes = λ k o e. e; limits = refl }
 
-  pub added_within : (h : Heap) (ob : Object) → IsWithin h → length h.objects + 1 ≤ h.limits.objects → cells_used h + cells_of ob ≤ h.limits.cells → IsWithin (added ob h)
+  pub added_within : (h : Heap) (ob : Object) → IsHeapWithin h → length h.objects + 1 ≤ h.limits.objects → cells_used h + cells_of ob ≤ h.limits.cells → IsHeapWithin (added ob h)
   added_within h ob z a b =
       let q = cells_append h.objects (ob ∷ []) in
       let l = length-append h.objects (ob ∷ []) in
       record { objects = omega (arith, a, l); cells = omega (arith, b, q); text = z.text; counted = z.counted }
 
-  pub added_leaves : (w : World) (ob : Object) → WorldSound p w → StandsOver p.linked (added ob w.heap) → ObjectSound p (added ob w.heap) ob → length w.heap.objects + 1 ≤ w.heap.limits.objects → cells_used w.heap + cells_of ob ≤ w.heap.limits.cells → Leaves p w (record w { heap = added ob w.heap })
+  pub added_leaves : (w : World) (ob : Object) → WorldSound p w → StandsOver p.linked (added ob w.heap) → ObjectSound p (added ob w.heap) ob → length w.heap.objects + 1 ≤ w.heap.limits.objects → cells_used w.heap + cells_of ob ≤ w.heap.limits.cells → LeavesSound p w (record w { heap = added ob w.heap })
   added_leaves w ob s stands fresh a b =
       let h = added ob w.heap in
       let g = added_evolves w.heap ob in
@@ -88,7 +88,7 @@ module _ (p : Setting) where
   pub changed_evolves : (h : Heap) (f : Object → Object) (o : ℕ) → Reshapes p.linked h o f → Evolves h (with_object f o h)
   changed_evolves h f o r = record { grows = changed_grows h f o r.keeps; classes = λ k i e. e; limits = refl }
 
-  pub changed_leaves : (w : World) (f : Object → Object) (o k : ℕ) → WorldSound p w → Reshapes p.linked w.heap o f → ((x : Object) → slice_get w.heap.objects o ≡ Some x → cells_of (f x) ≤ cells_of x + k) → cells_used w.heap + k ≤ w.heap.limits.cells → ((x : Object) → slice_get w.heap.objects o ≡ Some x → ObjectSound p (with_object f o w.heap) x → ObjectSound p (with_object f o w.heap) (f x)) → Leaves p w (record w { heap = with_object f o w.heap })
+  pub changed_leaves : (w : World) (f : Object → Object) (o k : ℕ) → WorldSound p w → Reshapes p.linked w.heap o f → ((x : Object) → slice_get w.heap.objects o ≡ Some x → cells_of (f x) ≤ cells_of x + k) → cells_used w.heap + k ≤ w.heap.limits.cells → ((x : Object) → slice_get w.heap.objects o ≡ Some x → ObjectSound p (with_object f o w.heap) x → ObjectSound p (with_object f o w.heap) (f x)) → LeavesSound p w (record w { heap = with_object f o w.heap })
   changed_leaves w f o k s r cells b fresh =
       let h = with_object f o w.heap in
       let g = changed_evolves w.heap f o r in
@@ -114,19 +114,19 @@ module _ (p : Setting) where
       pub part : PartSound p.linked h (part_at p.linked.parts x)
       pub first_of : IsFirstOf p.linked x
 
-    fresh_cells : (x : ℕ) (d : Option ObjId) (what : What) (starts : List Value) → cells_of (with_more_slots starts (bare x d what)) ≡ length starts
+    fresh_cells : (x : ℕ) (d : Option ObjId) (what : What) (starts : List Value) → cells_of (with_more_slots starts (bare_object x d what)) ≡ length starts
     fresh_cells x d what starts = omega arith
 
-    fresh_sound : (h : Heap) (x : ℕ) (d : Option ObjId) (what : What) → StandsOver p.linked h → IsFresh h x d what → (new : Heap) → StandsOver p.linked new → Evolves h new → ObjectSound p new (with_more_slots (start_values p.linked x) (bare x d what))
+    fresh_sound : (h : Heap) (x : ℕ) (d : Option ObjId) (what : What) → StandsOver p.linked h → IsFresh h x d what → (new : Heap) → StandsOver p.linked new → Evolves h new → ObjectSound p new (with_more_slots (start_values p.linked x) (bare_object x d what))
     fresh_sound h x d what s f new over g = record { slots = file.starts new x over f.layout; what = what_on p h new g x what f.what_is; part = part_on p h new g (part_at p.linked.parts x) f.part; first_of = f.first_of }
 
     pub stands_made : (h : Heap) (x : ℕ) (d : Option ObjId) (what : What) → StandsOver p.linked h → IsFresh h x d what → StandsOver p.linked (with_made (start_values p.linked x) x d what h)
     stands_made h x d what s f = over_made_object p.linked h x d what s f.layout f.delegate_is f.names (made_alone what f.alone).0 f.no_array (made_alone what f.alone).1
 
     -- where there is room for it
-    pub made_leaves : (w : World) (x : ℕ) (d : Option ObjId) (what : What) → WorldSound p w → IsFresh w.heap x d what → length w.heap.objects + 1 ≤ w.heap.limits.objects → cells_used w.heap + length (start_values p.linked x) ≤ w.heap.limits.cells → Leaves p w (record w { heap = with_made (start_values p.linked x) x d what w.heap })
+    pub made_leaves : (w : World) (x : ℕ) (d : Option ObjId) (what : What) → WorldSound p w → IsFresh w.heap x d what → length w.heap.objects + 1 ≤ w.heap.limits.objects → cells_used w.heap + length (start_values p.linked x) ≤ w.heap.limits.cells → LeavesSound p w (record w { heap = with_made (start_values p.linked x) x d what w.heap })
     made_leaves w x d what s f a b =
-        let ob = with_more_slots (start_values p.linked x) (bare x d what) in
+        let ob = with_more_slots (start_values p.linked x) (bare_object x d what) in
         let over = stands_made w.heap x d what s.stands f in
         let c = fresh_cells x d what (start_values p.linked x) in
         added_leaves w ob s over (fresh_sound w.heap x d what s.stands f (added ob w.heap) over (added_evolves w.heap ob)) a (omega (arith, b, c))
@@ -139,7 +139,7 @@ module _ (p : Setting) where
     new_object_fares w x d what s f =
         objects_then p w 1 _ _ s (λ a.
         cells_then p w (length (start_values p.linked x)) _ _ s (λ b.
-        let ob = with_more_slots (start_values p.linked x) (bare x d what) in
+        let ob = with_more_slots (start_values p.linked x) (bare_object x d what) in
         let l = last_object w.heap.objects ob in
         went_fares p w _ _ _ (made_leaves w x d what s f a b) (l.0, ap (λ (y : Object). y.layout) l.1)))
 
@@ -169,7 +169,7 @@ module _ (p : Setting) where
     pub new_array_fares : (w : World) (vs : List Value) → WorldSound p w → Each (Exists p.linked w.heap) vs → Fares p w (new_array p vs w) (λ n o. IsOfKind p.linked n.heap (kinds.Obj (layout_of p.linked (parts.Host hosts.Array))) (Obj o))
     new_array_fares w vs s es =
         let d = prototype_for hosts.Array w in
-        let ob = with_more_elements vs (bare (host_layout p.linked hosts.Array) d whats.Array) in
+        let ob = with_more_elements vs (bare_object (host_layout p.linked hosts.Array) d whats.Array) in
         objects_then p w 1 _ _ s (λ a.
         cells_then p w (length vs) _ _ s (λ b.
         let over = over_array p.linked w.heap vs d s.stands (prototype_there w.heap (14 + Rattle.abc_link_names.specs.Places.host_number hosts.Array) s.stands) (each_at (Exists p.linked w.heap) vs es) in
@@ -181,12 +181,12 @@ module _ (p : Setting) where
     -- ---- functions
 
     function_fresh : ℕ → ℕ → Option ObjId → Option ScopeId → List ScopeEntry → Heap → Object
-    function_fresh n home d saved es h = with_more_slots (start_values p.linked (host_layout p.linked hosts.Function)) (bare (host_layout p.linked hosts.Function) d (whats.Closure n home (top_scope saved es h) None))
+    function_fresh n home d saved es h = with_more_slots (start_values p.linked (host_layout p.linked hosts.Function)) (bare_object (host_layout p.linked hosts.Function) d (whats.Closure n home (top_scope saved es h) None))
 
     scoped_evolves : (h : Heap) (saved : Option ScopeId) (es : List ScopeEntry) → Evolves h (with_scopes saved es h)
     scoped_evolves h saved es = record { grows = scopes_grow h saved es; classes = λ k o e. e; limits = refl }
 
-    pub scoped_leaves : (w : World) (saved : Option ScopeId) (es : List ScopeEntry) → WorldSound p w → IsScope w.heap saved → AreEntries w.heap es → cells_used w.heap + length es ≤ w.heap.limits.cells → Leaves p w (record w { heap = with_scopes saved es w.heap })
+    pub scoped_leaves : (w : World) (saved : Option ScopeId) (es : List ScopeEntry) → WorldSound p w → IsScope w.heap saved → AreEntries w.heap es → cells_used w.heap + length es ≤ w.heap.limits.cells → LeavesSound p w (record w { heap = with_scopes saved es w.heap })
     scoped_leaves w saved es s hs he b =
         let h = with_scopes saved es w.heap in
         let g = scoped_evolves w.heap saved es in
@@ -208,5 +208,5 @@ module _ (p : Setting) where
         let more = length-append w.heap.scopes (nodes (length w.heap.scopes) saved es) in
         let fresh = host_fresh u.heap hosts.Function d what l.sound.stands (λ q. absurd cc) (bound_grown w.heap u.heap d l.grows.grows (prototype_there w.heap (14 + Rattle.abc_link_names.specs.Places.host_number hosts.Function) s.stands)) tt (hn, hh, top_is w.heap saved es hs, tt) (sound u.heap) in
         let m = made_leaves u x d what l.sound fresh a (omega (arith, b, more, nodes_are)) in
-        let at = last_object u.heap.objects (with_more_slots (start_values p.linked x) (bare x d what)) in
+        let at = last_object u.heap.objects (with_more_slots (start_values p.linked x) (bare_object x d what)) in
         went_fares p w _ _ _ (record { sound = m.sound; grows = evolves_on w.heap u.heap _ l.grows m.grows }) (at.0, ap (λ (y : Object). y.layout) at.1)))

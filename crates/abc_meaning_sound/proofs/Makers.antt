@@ -24,7 +24,7 @@ use Rattle.abc_link_names.specs.Linked.{IsLinkedFile, LinkedFile, above, layout_
 use Rattle.abc_link_names.specs.Numbering.{part_at}
 use Rattle.abc_link_names.specs.Owners.{namings, namings_among, namings_from, namings_in, no_naming, of_class, of_instance, of_script, owner_at, owner_of}
 use Rattle.abc_link_names.specs.Parts.{HasLayout, base_part, host_parent, parent}
-use Rattle.abc_link_names.specs.Places.{place_of, place_under}
+use Rattle.abc_link_names.specs.Places.{place_of_part, place_under}
 use Rattle.abc_link_names.specs.Tree.{IsBelow, up}
 use Rattle.abc_link_names.specs.declared.part.LayoutId.{LayoutId}
 use Rattle.abc_link_names.specs.declared.part.Part.{Part}
@@ -46,11 +46,11 @@ use Rattle.abc_verify_typing.specs.Routines.{Routine, has_base, home_of, this_ki
 use Rattle.abc_verify_typing.specs.declared.home.Home.TheVariants.{Elsewhere, MakesInstances, OnInstances}
 use Rattle.abc_verify_typing.proofs.Good.{good}
 use Rattle.abc_verify_typing.proofs.Lists.{Each-append, Each-at}
-use Rattle.abc_meaning.specs.Objects.{Place, flat, instances_of, kept_by, place, place_of_owner, statics_of}
+use Rattle.abc_meaning.specs.Objects.{Place, flat_value, instances_of, place_kept_by, place, place_of_owner, statics_of}
 use Rattle.abc_meaning.specs.Setting.{Setting}
 use Rattle.abc_meaning.specs.World.{Went, World}
-use Rattle.abc_meaning.specs.Sound.{AreMade, IsMade, IsOfKind, PartSound, WorldSound}
-use Rattle.abc_meaning_sound.specs.Given.{BaseRuns, FileGiven, MakersGiven, ScopesGiven, base_of as base_maker}
+use Rattle.abc_meaning.specs.Sound.{AreClassesMade, HasClassMade, IsOfKind, PartSound, WorldSound}
+use Rattle.abc_meaning_sound.specs.Given.{BaseRuns, FileGiven, MakersGiven, ScopesGiven, base_maker}
 use Rattle.abc_link_names.specs.ClassBases.{BaseKnown}
 use Rattle.abc_meaning_sound.proofs.Classes.{class_there, kept_is}
 use Rattle.abc_meaning_sound.proofs.Lists.{there}
@@ -104,7 +104,7 @@ module _ (l : LinkedFile) (linked : IsLinkedFile l) where
       let host : part_at l.parts (above l y) ≡ parts.Host hosts.Object = ap (part_at l.parts) zero_is ∙ root_part in
       let clash : parts.Host hosts.Object ≡ parts.Instance j = sym host ∙ q in cc
   no_class_above y j (Some (parts.Host c)) e h q =
-      let place_is : above l y ≡ place_of l.parts (parts.Host c) = above_at y (Some (parts.Host c)) e in
+      let place_is : above l y ≡ place_of_part l.parts (parts.Host c) = above_at y (Some (parts.Host c)) e in
       let host : part_at l.parts (above l y) ≡ parts.Host c = ap (part_at l.parts) place_is ∙ found l.file l.parts linked.numbering (parts.Host c) tt in
       let clash : parts.Host c ≡ parts.Instance j = sym host ∙ q in cc
   no_class_above y j (Some (parts.HostClassObject c)) e h q = h
@@ -220,13 +220,13 @@ module _ (p : Setting) (file : FileGiven p) (scopes : ScopesGiven p) where
 
   pub record Kept (w : World) (which : What → Option Place) (k : ℕ) : Type 0 where
     pub place : Place
-    pub kept : kept_by which k w ≡ Went w place
+    pub kept : place_kept_by which k w ≡ Went w place
     pub home : place.home < length p.linked.file.scripts
     pub saved : IsScope w.heap place.saved
 
-  pub class_keeps : (w : World) (k : ℕ) → WorldSound p w → k < length p.linked.file.instances → IsMade w.heap k → Kept w instances_of k × Kept w statics_of k
+  pub class_keeps : (w : World) (k : ℕ) → WorldSound p w → k < length p.linked.file.instances → HasClassMade w.heap k → Kept w instances_of k × Kept w statics_of k
   class_keeps w k z low made =
-      let found : flat (slice_get w.heap.classes k) ≡ Some made.0 = ap flat made.1 in
+      let found : flat_value (slice_get w.heap.classes k) ≡ Some made.0 = ap flat_value made.1 in
       let c = class_there p file scopes w k made.0 z low found in
       let ob = object_at w.heap.objects made.0.0 in
       let at = there w.heap.objects made.0.0 c.inside in
@@ -255,7 +255,7 @@ module _ (p : Setting) (file : FileGiven p) (scopes : ScopesGiven p) where
           let low_b : b < length l.file.instances = subst (BaseKnown l) e (bases_known l file.linked k low) in
           let own = iinits p file.linked b low_b (plain_base l file.linked k b low e) in
           let u = under_class l file.linked ob.layout k (z.stands.objects o.0 ob at).layout low below in
-          let made : AreMade l w.heap u.class = (subst (PartSound l w.heap) u.part (z.objects o.0 ob at).part).1 in
+          let made : AreClassesMade l w.heap u.class = (subst (PartSound l w.heap) u.part (z.objects o.0 ob at).part).1 in
           let edge = base_edge l file.linked k b low e in
           let way : Leads (base_graph l.file) u.class b = elim u.is [ inl same ↦ subst (λ (x : ℕ). Leads (base_graph l.file) x b) (sym same) (Edge edge) | inr up ↦ leads_on (base_graph l.file) u.class k b up edge ] in
           let kept = (class_keeps w b z low_b (made.bases b way)).0 in

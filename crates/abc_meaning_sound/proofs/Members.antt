@@ -20,7 +20,7 @@ use Rattle.abc_heap_store.specs.Changes.{with_element, with_object}
 use Rattle.abc_link_names.specs.Slots.{slots_of}
 use Rattle.abc_link_names.proofs.Tree.{below_self}
 use Rattle.abc_objects.specs.ElementNames.{ElementName, IsLength, IsNumber as IsElement}
-use Rattle.abc_objects.specs.Spaces.{holds_public}
+use Rattle.abc_objects.specs.Spaces.{name_holds_public}
 use Rattle.abc_objects.specs.declared.found.Found.{Found}
 use Rattle.abc_objects.specs.declared.found.Found.TheVariants.{Slot, Method, Getter, Setter, Property, Element, Length, WrongSide, Missing}
 use Rattle.abc_objects.specs.declared.found.Want.TheVariants as wants
@@ -31,7 +31,7 @@ use Rattle.abc_meaning.specs.Calling.{Came, Calls, Got, Makes, calls, got}
 use Rattle.abc_meaning.specs.Members.{bound_function, call_found, calls_name, delete_found, deletes, deletes_own, element_of, find_on, is_dynamic, may_hold, read_found, reads, undefined_if, value_found, write_found, write_own, write_property, writes_to}
 use Rattle.abc_meaning.specs.Objects.{new_of_host, own_place, without_property}
 use Rattle.abc_meaning.specs.Setting.{Setting, is_dynamic_layout}
-use Rattle.abc_meaning.specs.World.{Errs, Faults, Run, Went, World, and_then, changes, object}
+use Rattle.abc_meaning.specs.World.{Errs, Faults, Run, Went, World, and_then, changes, object_named}
 use Rattle.abc_meaning.specs.Sound.{AreTypings, FrameSound, SlotHolds, Typings, WorldSound}
 use Rattle.abc_meaning_sound.specs.Given.{FileGiven, FoundSound, OpsGiven, OwnedSound, SearchGiven}
 use Rattle.abc_meaning_sound.specs.Keeping.{CameSound, Fares}
@@ -102,11 +102,11 @@ module _ (p : Setting) (file : FileGiven p) (ops : OpsGiven p) (typings : Typing
   pub value_fares : (w : World) (x : Found) (v : Value) → WorldSound p w → IsValue x → FoundSound p w wants.Read x v → Fares p w (value_found p x v w) There
   value_fares w (Slot k constant) (Obj o) z i h =
       let s = slot_there w o k z h.0 h.1 in
-      some_then p w (object o w) (object_at w.heap.objects o.0) _ _ (there w.heap.objects o.0 h.0) (some_fares p w _ s.0 _ s.1 z s.2)
+      some_then p w (object_named o w) (object_at w.heap.objects o.0) _ _ (there w.heap.objects o.0 h.0) (some_fares p w _ s.0 _ s.1 z s.2)
   value_fares w (Property holder x) v z i h = done_fares p w _ _ z h
   value_fares w (Element holder k) v z i h =
-      some_then p w (object holder w) (object_at w.heap.objects holder.0) _ _ (there w.heap.objects holder.0 h.2) (some_fares p w _ h.0 _ h.1 z ((z.stands.objects holder.0 (object_at w.heap.objects holder.0) (there w.heap.objects holder.0 h.2)).element_values k h.0 h.1))
-  value_fares w (Length holder) v z i h = some_then p w (object holder w) (object_at w.heap.objects holder.0) _ _ (there w.heap.objects holder.0 h) (done_fares p w _ _ z (count_there w holder z h))
+      some_then p w (object_named holder w) (object_at w.heap.objects holder.0) _ _ (there w.heap.objects holder.0 h.2) (some_fares p w _ h.0 _ h.1 z ((z.stands.objects holder.0 (object_at w.heap.objects holder.0) (there w.heap.objects holder.0 h.2)).element_values k h.0 h.1))
+  value_fares w (Length holder) v z i h = some_then p w (object_named holder w) (object_at w.heap.objects holder.0) _ _ (there w.heap.objects holder.0 h) (done_fares p w _ _ z (count_there w holder z h))
   value_fares w WrongSide v z i h = stop_fares p w (Errs hosts.ReferenceError) _ z tt
   value_fares w Missing v z i h = missing_fares w (is_dynamic p v w) z
   value_fares w (Method owner n) v z i h = absurd i
@@ -201,7 +201,7 @@ module _ (p : Setting) (file : FileGiven p) (ops : OpsGiven p) (typings : Typing
       go false is q = absurd cc
 
   write_property_fares : (w : World) (o : ObjId) (text : Span) (x : Value) → WorldSound p w → IsObject w.heap o → IsText p.linked.file.strings w.heap text → Exists p.linked w.heap x → Fares p w (write_property p o text x w) (λ n u. Unit {0})
-  write_property_fares w o text x z h ht e = some_then p w (object o w) (object_at w.heap.objects o.0) _ _ (there w.heap.objects o.0 h) (write_own_fares w o text x (element_of p (object_at w.heap.objects o.0) text w) z (λ n q. arrays_alone w (object_at w.heap.objects o.0) text n q) ht e)
+  write_property_fares w o text x z h ht e = some_then p w (object_named o w) (object_at w.heap.objects o.0) _ _ (there w.heap.objects o.0 h) (write_own_fares w o text x (element_of p (object_at w.heap.objects o.0) text w) z (λ n q. arrays_alone w (object_at w.heap.objects o.0) text n q) ht e)
 
   pub write_found_fares : (w : World) (o : ObjId) (name : Name) (x : Value) (initial : Bool) (found : Found) → WorldSound p w → IsObject w.heap o → FoundSound p w wants.Write found (Obj o) → IsText p.linked.file.strings w.heap name.text → Exists p.linked w.heap x → Fares p w (write_found p o name x initial found w) Comes
   write_found_fares w o name x initial (Slot k constant) z ho h ht e =
@@ -210,7 +210,7 @@ module _ (p : Setting) (file : FileGiven p) (ops : OpsGiven p) (typings : Typing
   write_found_fares w o name x initial (Setter n) z ho h ht e = then_fares p w _ _ _ _ (owned_fares p file ops typings typed w n o (x ∷ []) z h (e, tt)) (λ i g l k. done_fares p i _ _ l.sound k)
   write_found_fares w o name x initial (Method owner n) z ho h ht e = stop_fares p w (Errs hosts.ReferenceError) _ z tt
   write_found_fares w o name x initial WrongSide z ho h ht e = stop_fares p w (Errs hosts.ReferenceError) _ z tt
-  write_found_fares w o name x initial Missing z ho h ht e = if_fares p w (holds_public p.linked name.spaces) _ _ _ (λ q. then_fares p w _ _ _ _ (write_property_fares w o name.text x z ho ht e) (λ n u l t. done_fares p n _ _ l.sound tt)) (λ q. stop_fares p w (Errs hosts.ReferenceError) _ z tt)
+  write_found_fares w o name x initial Missing z ho h ht e = if_fares p w (name_holds_public p.linked name.spaces) _ _ _ (λ q. then_fares p w _ _ _ _ (write_property_fares w o name.text x z ho ht e) (λ n u l t. done_fares p n _ _ l.sound tt)) (λ q. stop_fares p w (Errs hosts.ReferenceError) _ z tt)
   write_found_fares w o name x initial (Getter n) z ho h ht e = absurd h
   write_found_fares w o name x initial (Property holder v) z ho h ht e = absurd h
   write_found_fares w o name x initial (Element holder k) z ho h ht e = absurd h
@@ -264,7 +264,7 @@ module _ (p : Setting) (file : FileGiven p) (ops : OpsGiven p) (typings : Typing
 
     pub writes_fares : (w : World) (v : Value) (name : Name) (x : Value) (initial : Bool) → WorldSound p w → Exists p.linked w.heap v → IsText p.linked.file.strings w.heap name.text → Exists p.linked w.heap x → Fares p w (writes_to p v name x initial w) Comes
     writes_fares w (Obj o) name x initial z h ht e =
-        some_then p w (object o w) (object_at w.heap.objects o.0) _ _ (there w.heap.objects o.0 h)
+        some_then p w (object_named o w) (object_at w.heap.objects o.0) _ _ (there w.heap.objects o.0 h)
         (write_found_fares w o name x initial _ z h (search.declared w o (object_at w.heap.objects o.0).layout name wants.Write z h (below_self p.linked (object_at w.heap.objects o.0).layout)) ht e)
     writes_fares w Undefined name x initial z h ht e = stop_fares p w (Errs hosts.TypeError) _ z tt
     writes_fares w Null name x initial z h ht e = stop_fares p w (Errs hosts.TypeError) _ z tt

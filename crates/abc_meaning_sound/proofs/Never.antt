@@ -8,7 +8,7 @@ use Rattle.abc_verify_typing.specs.Routines.{Routine, routine}
 use Rattle.abc_verify_typing.specs.Typing.{IsTyping}
 use Rattle.abc_verify_typing.specs.declared.state.State.{State}
 use Rattle.abc_meaning.specs.Setting.{Setting, routine_in}
-use Rattle.abc_meaning.specs.ThrowLaws.{BeginsSound, IsNeverStuck, IsVerified, StaysSound}
+use Rattle.abc_meaning.specs.ThrowLaws.{BeginsSound, IsNeverStuck, IsVerifiedSetting, StaysSound}
 use Rattle.abc_meaning.specs.Meaning.{Ran, first_state, first_world, meaning, meaning_if, runs_for, too_small}
 use Rattle.abc_meaning.specs.Sound.{AreTypings, Typings}
 use Rattle.abc_meaning.specs.Throwing.{Stuck}
@@ -22,7 +22,7 @@ use Rattle.abc_meaning_sound.proofs.Searched.{search_given}
 use Rattle.abc_meaning_sound.proofs.Starting.{begins_sound}
 use Rattle.abc_meaning_sound.proofs.Verified.{file_given}
 
-pub given : (p : Setting) → IsVerified p → Given p
+pub given : (p : Setting) → IsVerifiedSetting p → Given p
 given p v =
     let file = file_given p v.linked in
     let scopes = scopes_given p v.linked in
@@ -35,7 +35,7 @@ pub the_first_is_sound : BeginsSound
 the_first_is_sound p typings limits v typed counted small = begins_sound p typings limits v counted small
 
 -- the typing of each method that has a body
-module _ (p : Setting) (v : IsVerified p) where
+module _ (p : Setting) (v : IsVerifiedSetting p) where
   abbrev states_of : (o : Option ℕ) → ((b : ℕ) → o ≡ Some b → b < length p.linked.file.bodies) → ℕ → Option State
   states_of None low = λ place. None
   states_of (Some b) low = (v.typed b (low b refl)).0

@@ -8,8 +8,8 @@ use Rattle.std.specs.Ordering.{int_eq}
 use Rattle.std.specs.Prelude.{Bool, true, false, ◌&&◌, int_le, int_div, int_rem, unsigned_abs, if◌then◌else◌}
 use Rattle.std.specs.declared.result.Result.{Result}
 use Rattle.std.specs.declared.result.Result.TheVariants.{Ok, Err}
-use Rattle.abc_heap_values.specs.Modular.{signed, unsigned}
-use Rattle.abc_heap_values.specs.Operations.{calculated, calculated_single}
+use Rattle.abc_heap_values.specs.Modular.{modulo_signed, modulo_unsigned}
+use Rattle.abc_heap_values.specs.Operations.{calculation, calculated_single}
 use Rattle.abc_heap_values.specs.Plain.{in_range, whole_quotient}
 use Rattle.abc_heap_values.specs.Whole.{distance}
 use Rattle.abc_heap_values.specs.declared.operations.Operation.{Operation}
@@ -22,7 +22,7 @@ use Rattle.abc_base.specs.declared.names.Fault.TheVariants.{Range, NotANumber}
 use Rattle.abc_heap_values.specs.declared.values.Value.{Value}
 use Rattle.abc_heap_values.specs.declared.values.Value.TheVariants as values
 use Rattle.abc_heap_values.specs.Kinds.{is_undefined}
-use Rattle.abc_heap_values.specs.Numbers.{IsInRange, and_then, calculated_of, calculated_single_of, int_of, is_modular, is_modular_single, number_of, number_of_bool, operand_of, operand_of_single, uint_of, whole_of}
+use Rattle.abc_heap_values.specs.Numbers.{IsInRange, then_number, calculated_of, calculated_single_of, int_of, is_modular, is_modular_single, number_of, number_of_bool, operand_of, operand_of_single, uint_of, whole_of}
 use Rattle.abc_ops.proofs.Wrapped.{signed_high, signed_low, unsigned_below}
 use Rattle.abc_verify_typing.proofs.Member.{and_left, and_right}
 
@@ -31,10 +31,10 @@ abbrev pub Ranged : Result ℤ Fault → Type 0
 Ranged (Ok z) = IsNumber z
 Ranged (Err f) = Unit {0}
 
-signed_number : (n : ℤ) → IsNumber (signed n)
+signed_number : (n : ℤ) → IsNumber (modulo_signed n)
 signed_number n = (signed_low n, omega (arith, ints, signed_high n))
 
-unsigned_number : (n : ℤ) → IsNumber (pos (unsigned n))
+unsigned_number : (n : ℤ) → IsNumber (pos (modulo_unsigned n))
 unsigned_number n = (omega (arith, ints), omega (arith, ints, unsigned_below n))
 
 low_bits : (u : ℕ) → u < 2147483648 → cast_signed w32 u ≡ pos u
@@ -75,15 +75,15 @@ if_ranged : (b : Bool) (x y : Result ℤ Fault) → Ranged x → Ranged y → Ra
 if_ranged true x y p q = p
 if_ranged false x y p q = q
 
-calculated_ranged : (op : Operation) (x y : ℤ) → IsNumber x → Ranged (calculated op x y)
+calculated_ranged : (op : Operation) (x y : ℤ) → IsNumber x → Ranged (calculation op x y)
 calculated_ranged ops.Add x y h = in_range_ranged (x +ℤ y)
 calculated_ranged ops.Subtract x y h = in_range_ranged (x -ℤ y)
 calculated_ranged ops.Multiply x y h = in_range_ranged (x *ℤ y)
 calculated_ranged ops.Divide x y h = if_ranged (int_eq y (pos 0)) (Err NotANumber) (whole_quotient x y) tt (if_ranged (int_eq (int_rem x y) (pos 0)) (in_range (int_div x y)) (Err Range) (in_range_ranged (int_div x y)) tt)
 calculated_ranged ops.Modulo x y h = if_ranged (int_eq y (pos 0)) (Err NotANumber) (Ok (int_rem x y)) tt (remainder_number x y h)
 calculated_ranged ops.ShiftLeft x y h = cast_number _
-calculated_ranged ops.ShiftRight x y h = shr_number (signed x) (distance y) (signed_number x)
-calculated_ranged ops.ShiftRightUnsigned x y h = let u = unsigned_below x in let d = div-le_self (unsigned x) (2 ^ distance y) in (omega (arith, ints), omega (arith, ints, d, u))
+calculated_ranged ops.ShiftRight x y h = shr_number (modulo_signed x) (distance y) (signed_number x)
+calculated_ranged ops.ShiftRightUnsigned x y h = let u = unsigned_below x in let d = div-le_self (modulo_unsigned x) (2 ^ distance y) in (omega (arith, ints), omega (arith, ints, d, u))
 calculated_ranged ops.BitAnd x y h = cast_number _
 calculated_ranged ops.BitOr x y h = cast_number _
 calculated_ranged ops.BitXor x y h = cast_number _
@@ -102,7 +102,7 @@ single_ranged singles.DecrementWhole x = signed_number _
 
 -- ---- of values
 
-then_ranged : (r : Result ℤ Fault) (f : ℤ → Result ℤ Fault) → Ranged r → ((x : ℤ) → IsNumber x → Ranged (f x)) → Ranged (and_then r f)
+then_ranged : (r : Result ℤ Fault) (f : ℤ → Result ℤ Fault) → Ranged r → ((x : ℤ) → IsNumber x → Ranged (f x)) → Ranged (then_number r f)
 then_ranged (Ok x) f h k = k x h
 then_ranged (Err e) f h k = tt
 
@@ -126,15 +126,15 @@ whole_ranged : (v : Value) → IsInRange v → Ranged (whole_of v)
 whole_ranged v h = if_ranged (is_undefined v) (Ok (pos 0)) (number_of v) zero_number (number_ranged v h)
 
 pub int_ranged : (v : Value) → IsInRange v → Ranged (int_of v)
-int_ranged v h = then_ranged (whole_of v) (λ n. Ok (signed n)) (whole_ranged v h) (λ n k. signed_number n)
+int_ranged v h = then_ranged (whole_of v) (λ n. Ok (modulo_signed n)) (whole_ranged v h) (λ n k. signed_number n)
 
 pub uint_ranged : (v : Value) → IsInRange v → Ranged (uint_of v)
-uint_ranged v h = then_ranged (whole_of v) (λ n. Ok (pos (unsigned n))) (whole_ranged v h) (λ n k. unsigned_number n)
+uint_ranged v h = then_ranged (whole_of v) (λ n. Ok (pos (modulo_unsigned n))) (whole_ranged v h) (λ n k. unsigned_number n)
 
 pub calculated_of_ranged : (op : Operation) (x y : Value) → IsInRange x → IsInRange y → Ranged (calculated_of op x y)
 calculated_of_ranged op x y h k =
-    then_ranged (operand_of op x) (λ a. and_then (operand_of op y) (λ b. calculated op a b)) (operand x h) (λ a ha.
-    then_ranged (operand_of op y) (λ b. calculated op a b) (operand y k) (λ b hb. calculated_ranged op a b ha))
+    then_ranged (operand_of op x) (λ a. then_number (operand_of op y) (λ b. calculation op a b)) (operand x h) (λ a ha.
+    then_ranged (operand_of op y) (λ b. calculation op a b) (operand y k) (λ b hb. calculated_ranged op a b ha))
   where
     operand : (v : Value) → IsInRange v → Ranged (operand_of op v)
     operand v z = if_ranged (is_modular op) (whole_of v) (number_of v) (whole_ranged v z) (number_ranged v z)

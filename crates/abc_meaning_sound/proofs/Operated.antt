@@ -33,20 +33,20 @@ use Rattle.abc_link_names.specs.declared.types.Ty.TheVariants as types
 use Rattle.abc_verify_typing.specs.Effects.{sum_kind}
 use Rattle.abc_ops.specs.Coercions.{undefined_as_null}
 use Rattle.abc_ops.specs.Compares.{compared_as, or_fault}
-use Rattle.abc_ops.specs.Conversions.{converted, objected, spelled, text_or_null}
-use Rattle.abc_ops.specs.Left.{Left, as_value, followed_by, gives, number_or_fault, text_made, text_made_if, text_value, unchanged}
-use Rattle.abc_ops.specs.Operations.{computed, computed_single, joined, joined_texts, joined_to, type_name}
+use Rattle.abc_ops.specs.Conversions.{conversion_result, object_or_error, spelling, converted_or_null}
+use Rattle.abc_ops.specs.Left.{Left, as_value, followed_by, gives_left, number_or_fault, text_made, text_made_if, text_value, heap_unchanged}
+use Rattle.abc_ops.specs.Operations.{computation, computed_single, concatenation, joined_texts, joined_to, type_name}
 use Rattle.abc_ops.specs.declared.end.OpEnd.{OpEnd}
 use Rattle.abc_ops.specs.declared.end.OpEnd.TheVariants as ends
 use Rattle.abc_ops.proofs.Staying.{fixed_there, in_range_there, string_there}
-use Rattle.abc_meaning.specs.Ops.{coerced, kept_of, operates, outcome}
+use Rattle.abc_meaning.specs.Ops.{coerce_to, value_kept, operates, outcome}
 use Rattle.abc_meaning.specs.Setting.{Setting}
-use Rattle.abc_meaning.specs.Types.{is_of}
+use Rattle.abc_meaning.specs.Types.{is_of_type}
 use Rattle.abc_meaning.specs.World.{World}
 use Rattle.abc_meaning.specs.Sound.{IsOfKind, WorldSound}
 use Rattle.abc_meaning.proofs.ValueKinds.{type_holds}
 use Rattle.abc_meaning_sound.specs.Given.{OpsGiven, conversion_kind, double_kind, single_kind}
-use Rattle.abc_meaning_sound.specs.Keeping.{Fares, IsError, Leaves}
+use Rattle.abc_meaning_sound.specs.Keeping.{Fares, IsError, LeavesSound}
 use Rattle.abc_meaning_sound.proofs.Faring.{leaves_self, leaves_trans}
 use Rattle.abc_meaning_sound.proofs.Made.{text_leaves}
 use Rattle.abc_meaning_sound.proofs.Numbers.{Ranged, calculated_of_ranged, int_ranged, number_ranged, single_of_ranged, uint_ranged}
@@ -151,14 +151,14 @@ one_is_text false b e = inr e
 
 -- the world that is left is sound, and what is answered is there
 pub record LeftSound {X : Type 0} (p : Setting) (w : World) (Q : Heap → X → Type 0) (step : Left X) : Type 0 where
-  pub leaves : Leaves p w (at_heap w step.heap)
+  pub leaves : LeavesSound p w (at_heap w step.heap)
   pub answer : AnswerSound (Q step.heap) step.answer
 
 module _ (p : Setting) (linked : IsLinkedFile p.linked) where
-  same_heap : (w : World) → WorldSound p w → Leaves p w (at_heap w w.heap)
+  same_heap : (w : World) → WorldSound p w → LeavesSound p w (at_heap w w.heap)
   same_heap w z = let l = leaves_self p w z in record { sound = record { stands = z.stands; objects = z.objects; formulas = z.formulas; scripts = z.scripts; within = z.within }; grows = l.grows }
 
-  outcome_fares : {X : Type 0} (w n : World) (r : Result X OpEnd) (Q : World → X → Type 0) → Leaves p w n → AnswerSound (Q n) r → Fares p w (outcome n r) Q
+  outcome_fares : {X : Type 0} (w n : World) (r : Result X OpEnd) (Q : World → X → Type 0) → LeavesSound p w n → AnswerSound (Q n) r → Fares p w (outcome n r) Q
   outcome_fares w n (Ok x) Q l a = record { so = (l, a) }
   outcome_fares w n (Err (ends.Profile f)) Q l a = record { so = (l, tt) }
   outcome_fares w n (Err (ends.Full f)) Q l a = record { so = (l, tt) }
@@ -167,13 +167,13 @@ module _ (p : Setting) (linked : IsLinkedFile p.linked) where
   operated : {X : Type 0} (w : World) (f : Heap → Left X) (Q : Heap → X → Type 0) → LeftSound p w Q (f w.heap) → Fares p w (operates f w) (λ n x. Q n.heap x)
   operated w f Q s = outcome_fares w (at_heap w (f w.heap).heap) (f w.heap).answer (λ n x. Q n.heap x) s.leaves s.answer
 
-  unchanged_sound : {X : Type 0} (w : World) (r : Result X OpEnd) (Q : Heap → X → Type 0) → WorldSound p w → AnswerSound (Q w.heap) r → LeftSound p w Q (unchanged w.heap r)
+  unchanged_sound : {X : Type 0} (w : World) (r : Result X OpEnd) (Q : Heap → X → Type 0) → WorldSound p w → AnswerSound (Q w.heap) r → LeftSound p w Q (heap_unchanged w.heap r)
   unchanged_sound w r Q z a = record { leaves = same_heap w z; answer = a }
 
-  gives_sound : {X : Type 0} (w : World) (x : X) (Q : Heap → X → Type 0) → WorldSound p w → Q w.heap x → LeftSound p w Q (gives w.heap x)
+  gives_sound : {X : Type 0} (w : World) (x : X) (Q : Heap → X → Type 0) → WorldSound p w → Q w.heap x → LeftSound p w Q (gives_left w.heap x)
   gives_sound w x Q z a = record { leaves = same_heap w z; answer = a }
 
-  followed_sound : {A B : Type 0} (w : World) (g : Heap) (r : Result A OpEnd) (f : Heap → A → Left B) (P : Heap → A → Type 0) (Q : Heap → B → Type 0) → Leaves p w (at_heap w g) → AnswerSound (P g) r → ((x : A) → P g x → LeftSound p (at_heap w g) Q (f g x)) → LeftSound p w Q (followed_by g r f)
+  followed_sound : {A B : Type 0} (w : World) (g : Heap) (r : Result A OpEnd) (f : Heap → A → Left B) (P : Heap → A → Type 0) (Q : Heap → B → Type 0) → LeavesSound p w (at_heap w g) → AnswerSound (P g) r → ((x : A) → P g x → LeftSound p (at_heap w g) Q (f g x)) → LeftSound p w Q (followed_by g r f)
   followed_sound w g (Ok x) f P Q l a k = let s = k x a in record { leaves = leaves_trans p w (at_heap w g) (at_heap w (f g x).heap) l s.leaves; answer = s.answer }
   followed_sound w g (Err (ends.Profile e)) f P Q l a k = record { leaves = l; answer = tt }
   followed_sound w g (Err (ends.Full e)) f P Q l a k = record { leaves = l; answer = tt }
@@ -194,7 +194,7 @@ module _ (p : Setting) (linked : IsLinkedFile p.linked) where
       go true e = record { leaves = text_leaves p w bytes z (leb-true _ _ e); answer = omega (arith, length-append w.heap.made bytes) }
       go false e = record { leaves = same_heap w z; answer = tt }
 
-  spelled_sound : (w : World) (v : Value) → WorldSound p w → Exists p.linked w.heap v → LeftSound p w There (spelled p.linked w.heap v)
+  spelled_sound : (w : World) (v : Value) → WorldSound p w → Exists p.linked w.heap v → LeftSound p w There (spelling p.linked w.heap v)
   spelled_sound w values.Undefined z e = gives_sound w (fixed_span fixed.Undefined) There z (fixed_there p.linked w.heap fixed.Undefined z.stands)
   spelled_sound w values.Null z e = gives_sound w (fixed_span fixed.Null) There z (fixed_there p.linked w.heap fixed.Null z.stands)
   spelled_sound w (values.Num n) z e = made_sound w (signed_decimal n) z
@@ -214,14 +214,14 @@ module _ (p : Setting) (linked : IsLinkedFile p.linked) where
   joined_to_sound : (w : World) (a : Span) (y : Value) → WorldSound p w → Exists p.linked w.heap y → LeftSound p w (OfKind kinds.Text) (joined_to p.linked w.heap a y)
   joined_to_sound w a y z e =
       let s = spelled_sound w y z e in
-      followed_sound w (spelled p.linked w.heap y).heap (spelled p.linked w.heap y).answer (λ k b. joined_texts p.linked k a b) There (OfKind kinds.Text) s.leaves s.answer
-      (λ b h. joined_texts_sound (at_heap w (spelled p.linked w.heap y).heap) a b s.leaves.sound)
+      followed_sound w (spelling p.linked w.heap y).heap (spelling p.linked w.heap y).answer (λ k b. joined_texts p.linked k a b) There (OfKind kinds.Text) s.leaves s.answer
+      (λ b h. joined_texts_sound (at_heap w (spelling p.linked w.heap y).heap) a b s.leaves.sound)
 
-  joined_sound : (w : World) (x y : Value) → WorldSound p w → Exists p.linked w.heap x → Exists p.linked w.heap y → LeftSound p w (OfKind kinds.Text) (joined p.linked w.heap x y)
+  joined_sound : (w : World) (x y : Value) → WorldSound p w → Exists p.linked w.heap x → Exists p.linked w.heap y → LeftSound p w (OfKind kinds.Text) (concatenation p.linked w.heap x y)
   joined_sound w x y z e d =
       let s = spelled_sound w x z e in
-      followed_sound w (spelled p.linked w.heap x).heap (spelled p.linked w.heap x).answer (λ k a. joined_to p.linked k a y) There (OfKind kinds.Text) s.leaves s.answer
-      (λ a h. joined_to_sound (at_heap w (spelled p.linked w.heap x).heap) a y s.leaves.sound (Rattle.abc_meaning_sound.proofs.Growing.value_on p w.heap (spelled p.linked w.heap x).heap s.leaves.grows y d))
+      followed_sound w (spelling p.linked w.heap x).heap (spelling p.linked w.heap x).answer (λ k a. joined_to p.linked k a y) There (OfKind kinds.Text) s.leaves s.answer
+      (λ a h. joined_to_sound (at_heap w (spelling p.linked w.heap x).heap) a y s.leaves.sound (Rattle.abc_meaning_sound.proofs.Growing.value_on p w.heap (spelling p.linked w.heap x).heap s.leaves.grows y d))
 
   -- ---- numbers
 
@@ -238,21 +238,21 @@ module _ (p : Setting) (linked : IsLinkedFile p.linked) where
 
   -- ---- conversions
 
-  text_or_null_sound : (w : World) (v : Value) → WorldSound p w → Exists p.linked w.heap v → LeftSound p w (OfKind kinds.Text) (text_or_null p.linked w.heap v)
+  text_or_null_sound : (w : World) (v : Value) → WorldSound p w → Exists p.linked w.heap v → LeftSound p w (OfKind kinds.Text) (converted_or_null p.linked w.heap v)
   text_or_null_sound w v z e = go (is_nothing v)
     where
-      go : (b : Bool) → LeftSound p w (OfKind kinds.Text) (if b then gives w.heap values.Null else as_value (spelled p.linked w.heap v))
+      go : (b : Bool) → LeftSound p w (OfKind kinds.Text) (if b then gives_left w.heap values.Null else as_value (spelling p.linked w.heap v))
       go true = gives_sound w values.Null (OfKind kinds.Text) z (record { exists = tt; kind = tt })
       go false = value_sound w _ (spelled_sound w v z e)
 
-  objected_sound : (h : Heap) (v : Value) (P : Value → Type 0) → P v → AnswerSound P (objected v)
+  objected_sound : (h : Heap) (v : Value) (P : Value → Type 0) → P v → AnswerSound P (object_or_error v)
   objected_sound h v P e = go (is_nothing v)
     where
       go : (b : Bool) → AnswerSound P (if b then Err (ends.Throw hosts.TypeError) else Ok v)
       go true = tt
       go false = e
 
-  converted_sound : (w : World) (to : Conversion) (v : Value) → WorldSound p w → Exists p.linked w.heap v → LeftSound p w (OfKind (conversion_kind to)) (converted p.linked w.heap to v)
+  converted_sound : (w : World) (to : Conversion) (v : Value) → WorldSound p w → Exists p.linked w.heap v → LeftSound p w (OfKind (conversion_kind to)) (conversion_result p.linked w.heap to v)
   converted_sound w ConvertS v z e = value_sound w _ (spelled_sound w v z e)
   converted_sound w ConvertI v z e = unchanged_sound w _ (OfKind kinds.Num) z (number_sound w.heap (int_of v) (int_ranged v (in_range_there p.linked w.heap v e)))
   converted_sound w ConvertU v z e = unchanged_sound w _ (OfKind kinds.Num) z (number_sound w.heap (uint_of v) (uint_ranged v (in_range_there p.linked w.heap v e)))
@@ -263,10 +263,10 @@ module _ (p : Setting) (linked : IsLinkedFile p.linked) where
 
   -- ---- coercion
 
-  kept_sound : (w : World) (t : Ty) (v : Value) → (OfKind (kind_of_type p.linked t) w.heap values.Null) → WorldSound p w → Exists p.linked w.heap v → LeftSound p w (OfKind (kind_of_type p.linked t)) (kept_of p.linked w.heap t v)
-  kept_sound w t v null z e = unchanged_sound w _ (OfKind (kind_of_type p.linked t)) z (go (is_nothing v) (is_of p.linked w.heap t v) refl)
+  kept_sound : (w : World) (t : Ty) (v : Value) → (OfKind (kind_of_type p.linked t) w.heap values.Null) → WorldSound p w → Exists p.linked w.heap v → LeftSound p w (OfKind (kind_of_type p.linked t)) (value_kept p.linked w.heap t v)
+  kept_sound w t v null z e = unchanged_sound w _ (OfKind (kind_of_type p.linked t)) z (go (is_nothing v) (is_of_type p.linked w.heap t v) refl)
     where
-      go : (a b : Bool) → is_of p.linked w.heap t v ≡ b → AnswerSound (OfKind (kind_of_type p.linked t) w.heap) (if a then Ok values.Null else (if b then Ok v else Err (ends.Throw hosts.TypeError)))
+      go : (a b : Bool) → is_of_type p.linked w.heap t v ≡ b → AnswerSound (OfKind (kind_of_type p.linked t) w.heap) (if a then Ok values.Null else (if b then Ok v else Err (ends.Throw hosts.TypeError)))
       go true b q = null
       go false true q = record { exists = e; kind = type_holds p.linked w.heap t v linked e q }
       go false false q = tt
@@ -278,7 +278,7 @@ module _ (p : Setting) (linked : IsLinkedFile p.linked) where
       go true = tt
       go false = e
 
-  coerced_sound : (w : World) (t : Ty) (v : Value) → WorldSound p w → Exists p.linked w.heap v → LeftSound p w (OfKind (kind_of_type p.linked t)) (coerced p.linked w.heap t v)
+  coerced_sound : (w : World) (t : Ty) (v : Value) → WorldSound p w → Exists p.linked w.heap v → LeftSound p w (OfKind (kind_of_type p.linked t)) (coerce_to p.linked w.heap t v)
   coerced_sound w types.Any v z e = gives_sound w v (OfKind kinds.Any) z (record { exists = e; kind = tt })
   coerced_sound w types.Void v z e = gives_sound w values.Undefined (OfKind kinds.Undef) z (record { exists = tt; kind = tt })
   coerced_sound w types.Object v z e = gives_sound w (undefined_as_null v) (OfKind kinds.Any) z (record { exists = null_or_value w.heap v e; kind = tt })
@@ -296,7 +296,7 @@ module _ (p : Setting) (linked : IsLinkedFile p.linked) where
   single_sound : (w : World) (op : ℕ) (v : Value) → WorldSound p w → Exists p.linked w.heap v → LeftSound p w (OfKind (single_kind op)) (computed_single w.heap op v)
   single_sound w op v z e = go (nat_eq op 0x95) (nat_eq op 0x96)
     where
-      go : (a b : Bool) → LeftSound p w (OfKind (if a then kinds.Text else (if b then kinds.Bool else kinds.Num))) (if a then gives w.heap (values.Text (fixed_span (type_name w.heap v))) else (if b then gives w.heap (values.Bool (not (truth_of v))) else unchanged w.heap (number_or_fault (calculated_single_of (single_of op) v))))
+      go : (a b : Bool) → LeftSound p w (OfKind (if a then kinds.Text else (if b then kinds.Bool else kinds.Num))) (if a then gives_left w.heap (values.Text (fixed_span (type_name w.heap v))) else (if b then gives_left w.heap (values.Bool (not (truth_of v))) else heap_unchanged w.heap (number_or_fault (calculated_single_of (single_of op) v))))
       go true b = gives_sound w _ (OfKind kinds.Text) z (record { exists = fixed_there p.linked w.heap (type_name w.heap v) z.stands; kind = tt })
       go false true = gives_sound w _ (OfKind kinds.Bool) z (record { exists = tt; kind = tt })
       go false false = unchanged_sound w _ (OfKind kinds.Num) z (number_sound w.heap _ (single_of_ranged (single_of op) v (in_range_there p.linked w.heap v e)))
@@ -308,16 +308,16 @@ module _ (p : Setting) (linked : IsLinkedFile p.linked) where
   ]
 
   abbrev plainly : Heap → ℕ → Value → Value → Left Value
-  plainly h op x y = unchanged h (number_or_fault (calculated_of (operation_of op) x y))
+  plainly h op x y = heap_unchanged h (number_or_fault (calculated_of (operation_of op) x y))
 
-  double_sound : (w : World) (op : ℕ) (x y : Value) (k m : Kind) → WorldSound p w → OfKind k w.heap x → OfKind m w.heap y → LeftSound p w (OfKind (double_kind op k m)) (computed p.linked w.heap op x y)
+  double_sound : (w : World) (op : ℕ) (x y : Value) (k m : Kind) → WorldSound p w → OfKind k w.heap x → OfKind m w.heap y → LeftSound p w (OfKind (double_kind op k m)) (computation p.linked w.heap op x y)
   double_sound w op x y k m z hx hy = go (nat_eq op 0xA0) (is_text x || is_text y) refl
     where
       plain : LeftSound p w (OfKind kinds.Num) (plainly w.heap op x y)
       plain = unchanged_sound w _ (OfKind kinds.Num) z (number_sound w.heap _ (calculated_of_ranged (operation_of op) x y (in_range_there p.linked w.heap x hx.exists) (in_range_there p.linked w.heap y hy.exists)))
 
-      go : (a t : Bool) → (is_text x || is_text y) ≡ t → LeftSound p w (OfKind (if a then sum_kind k m else kinds.Num)) (if a && t then joined p.linked w.heap x y else plainly w.heap op x y)
-      go true true e = subst (λ (q : Kind). LeftSound p w (OfKind q) (joined p.linked w.heap x y)) (sym (sum_is_any w.heap k m x y hx hy e)) (any_left w (joined p.linked w.heap x y) kinds.Text (joined_sound w x y z hx.exists hy.exists))
+      go : (a t : Bool) → (is_text x || is_text y) ≡ t → LeftSound p w (OfKind (if a then sum_kind k m else kinds.Num)) (if a && t then concatenation p.linked w.heap x y else plainly w.heap op x y)
+      go true true e = subst (λ (q : Kind). LeftSound p w (OfKind q) (concatenation p.linked w.heap x y)) (sym (sum_is_any w.heap k m x y hx hy e)) (any_left w (concatenation p.linked w.heap x y) kinds.Text (joined_sound w x y z hx.exists hy.exists))
       go true false e = num_or_any k m (λ (q : Kind). LeftSound p w (OfKind q) (plainly w.heap op x y)) plain (any_left w (plainly w.heap op x y) kinds.Num plain)
       go false t e = plain
 
@@ -332,12 +332,12 @@ module _ (p : Setting) (linked : IsLinkedFile p.linked) where
 
   pub ops_given : OpsGiven p
   ops_given = record {
-    spell = λ w v z e. operated w (λ h. spelled p.linked h v) There (spelled_sound w v z e);
+    spell = λ w v z e. operated w (λ h. spelling p.linked h v) There (spelled_sound w v z e);
     text = λ w bytes z. operated w (λ h. text_made h bytes) There (made_sound w bytes z);
-    coerce = λ w t v z e. operated w (λ h. coerced p.linked h t v) (OfKind (kind_of_type p.linked t)) (coerced_sound w t v z e);
-    convert = λ w to v z e. operated w (λ h. converted p.linked h to v) (OfKind (conversion_kind to)) (converted_sound w to v z e);
-    objects = λ w v z e. operated w (λ h. converted p.linked h ConvertO v) (λ h x. x ≡ v) (unchanged_sound w _ (λ h x. x ≡ v) z (objected_sound w.heap v (λ x. x ≡ v) refl));
+    coerce = λ w t v z e. operated w (λ h. coerce_to p.linked h t v) (OfKind (kind_of_type p.linked t)) (coerced_sound w t v z e);
+    convert = λ w to v z e. operated w (λ h. conversion_result p.linked h to v) (OfKind (conversion_kind to)) (converted_sound w to v z e);
+    objects = λ w v z e. operated w (λ h. conversion_result p.linked h ConvertO v) (λ h x. x ≡ v) (unchanged_sound w _ (λ h x. x ≡ v) z (objected_sound w.heap v (λ x. x ≡ v) refl));
     single = λ w op v z e. operated w (λ h. computed_single h op v) (OfKind (single_kind op)) (single_sound w op v z e);
-    double = λ w op x y k m z hx hy. operated w (λ h. computed p.linked h op x y) (OfKind (double_kind op k m)) (double_sound w op x y k m z hx hy);
+    double = λ w op x y k m z hx hy. operated w (λ h. computation p.linked h op x y) (OfKind (double_kind op k m)) (double_sound w op x y k m z hx hy);
     compare = λ w op x y z. outcome_fares w w _ (λ n b. Unit {0}) (leaves_self p w z) (compared_sound w.heap (comparison_of op) x y);
   }

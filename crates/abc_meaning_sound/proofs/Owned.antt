@@ -144,14 +144,14 @@ in_all : {A : Type 0} (of : ℕ → A → List Naming) (of' : A → List ℕ) (k
 in_all of of' k [] g = refl
 in_all of of' k (x ∷ xs) g = methods_append (of k x) (namings_from of (k + 1) xs) ∙ ap (λ (ys : List ℕ). ys ++ methods (namings_from of (k + 1) xs)) (g k x) ∙ ap (λ (ys : List ℕ). of' x ++ ys) (in_all of of' (k + 1) xs g)
 
-of_instances : (v : Abc) → methods (namings_from of_instance 0 v.instances) ≡ flat_map rule.of_instance v.instances
-of_instances v = in_all of_instance rule.of_instance 0 v.instances (λ j a. ap (λ (ms : List ℕ). a.iinit ∷ ms) (in_table (owners.Instance j) a.traits))
+of_instances : (v : Abc) → methods (namings_from of_instance 0 v.instances) ≡ flat_map rule.methods_of_instance v.instances
+of_instances v = in_all of_instance rule.methods_of_instance 0 v.instances (λ j a. ap (λ (ms : List ℕ). a.iinit ∷ ms) (in_table (owners.Instance j) a.traits))
 
-of_classes : (v : Abc) → methods (namings_from of_class 0 v.classes) ≡ flat_map rule.of_class v.classes
-of_classes v = in_all of_class rule.of_class 0 v.classes (λ j a. ap (λ (ms : List ℕ). a.cinit ∷ ms) (in_table (owners.Static j) a.traits))
+of_classes : (v : Abc) → methods (namings_from of_class 0 v.classes) ≡ flat_map rule.methods_of_class v.classes
+of_classes v = in_all of_class rule.methods_of_class 0 v.classes (λ j a. ap (λ (ms : List ℕ). a.cinit ∷ ms) (in_table (owners.Static j) a.traits))
 
-of_scripts : (v : Abc) → methods (namings_from of_script 0 v.scripts) ≡ flat_map rule.of_script v.scripts
-of_scripts v = in_all of_script rule.of_script 0 v.scripts (λ j a. ap (λ (ms : List ℕ). a.init ∷ ms) (in_table (owners.ScriptMethod j) a.traits))
+of_scripts : (v : Abc) → methods (namings_from of_script 0 v.scripts) ≡ flat_map rule.methods_of_script v.scripts
+of_scripts v = in_all of_script rule.methods_of_script 0 v.scripts (λ j a. ap (λ (ms : List ℕ). a.init ∷ ms) (in_table (owners.ScriptMethod j) a.traits))
 
 -- nothing is named oftener than the rule counts
 count_named : (v : Abc) (m : ℕ) → count_by (λ (n : Naming). nat_eq m n.method) (namings v) ≤ times_named m (methods_named v)
@@ -159,9 +159,9 @@ count_named v m =
     let a = namings_from of_instance 0 v.instances in
     let b = namings_from of_class 0 v.classes in
     let c = namings_from of_script 0 v.scripts in
-    let is = flat_map rule.of_instance v.instances in
-    let bs = flat_map rule.of_class v.classes in
-    let cs = flat_map rule.of_script v.scripts in
+    let is = flat_map rule.methods_of_instance v.instances in
+    let bs = flat_map rule.methods_of_class v.classes in
+    let cs = flat_map rule.methods_of_script v.scripts in
     let ds = flat_map of_body v.bodies in
     let test = λ (n : Naming). nat_eq m n.method in
     let p : count_by (λ (n : Naming). nat_eq m n.method) (namings v) ≡ count_by test (a ++ b) + count_by test c = count_append test (a ++ b) c in
@@ -229,23 +229,23 @@ module _ (p : Setting) (linked : IsLinkedFile p.linked) where
       in_left n (namings_from of_instance 0 v.instances ++ namings_from of_class 0 v.classes) (namings_from of_script 0 v.scripts)
       (in_left n (namings_from of_instance 0 v.instances) (namings_from of_class 0 v.classes) (in_from_first n of_instance v.instances k (instance_at v k) (is_at v.instances k no_instance low) h))
 
-  pub of_script_run : (s m : ℕ) → s < length v.scripts → In m (rule.of_script (script_at v s)) → In m (methods_run v)
+  pub of_script_run : (s m : ℕ) → s < length v.scripts → In m (rule.methods_of_script (script_at v s)) → In m (methods_run v)
   of_script_run s m low h =
-      in_left m (flat_map run_of_instance v.instances ++ flat_map rule.of_class v.classes ++ flat_map rule.of_script v.scripts) (flat_map of_body v.bodies)
-      (in_right m (flat_map run_of_instance v.instances ++ flat_map rule.of_class v.classes) (flat_map rule.of_script v.scripts) (in_flat m rule.of_script v.scripts s (script_at v s) (is_at v.scripts s no_script low) h))
+      in_left m (flat_map run_of_instance v.instances ++ flat_map rule.methods_of_class v.classes ++ flat_map rule.methods_of_script v.scripts) (flat_map of_body v.bodies)
+      (in_right m (flat_map run_of_instance v.instances ++ flat_map rule.methods_of_class v.classes) (flat_map rule.methods_of_script v.scripts) (in_flat m rule.methods_of_script v.scripts s (script_at v s) (is_at v.scripts s no_script low) h))
 
-  pub of_class_run : (k m : ℕ) → k < length v.classes → In m (rule.of_class (class_at v k)) → In m (methods_run v)
+  pub of_class_run : (k m : ℕ) → k < length v.classes → In m (rule.methods_of_class (class_at v k)) → In m (methods_run v)
   of_class_run k m low h =
-      in_left m (flat_map run_of_instance v.instances ++ flat_map rule.of_class v.classes ++ flat_map rule.of_script v.scripts) (flat_map of_body v.bodies)
-      (in_left m (flat_map run_of_instance v.instances ++ flat_map rule.of_class v.classes) (flat_map rule.of_script v.scripts)
-      (in_right m (flat_map run_of_instance v.instances) (flat_map rule.of_class v.classes) (in_flat m rule.of_class v.classes k (class_at v k) (is_at v.classes k no_class low) h)))
+      in_left m (flat_map run_of_instance v.instances ++ flat_map rule.methods_of_class v.classes ++ flat_map rule.methods_of_script v.scripts) (flat_map of_body v.bodies)
+      (in_left m (flat_map run_of_instance v.instances ++ flat_map rule.methods_of_class v.classes) (flat_map rule.methods_of_script v.scripts)
+      (in_right m (flat_map run_of_instance v.instances) (flat_map rule.methods_of_class v.classes) (in_flat m rule.methods_of_class v.classes k (class_at v k) (is_at v.classes k no_class low) h)))
 
-  pub of_instance_run : (k m : ℕ) → k < length v.instances → is_interface v k ≡ false → In m (rule.of_instance (instance_at v k)) → In m (methods_run v)
+  pub of_instance_run : (k m : ℕ) → k < length v.instances → is_interface v k ≡ false → In m (rule.methods_of_instance (instance_at v k)) → In m (methods_run v)
   of_instance_run k m low plain h =
-      in_left m (flat_map run_of_instance v.instances ++ flat_map rule.of_class v.classes ++ flat_map rule.of_script v.scripts) (flat_map of_body v.bodies)
-      (in_left m (flat_map run_of_instance v.instances ++ flat_map rule.of_class v.classes) (flat_map rule.of_script v.scripts)
-      (in_left m (flat_map run_of_instance v.instances) (flat_map rule.of_class v.classes)
-      (in_flat m run_of_instance v.instances k (instance_at v k) (is_at v.instances k no_instance low) (subst (λ (b : Bool). In m (if b then [] else rule.of_instance (instance_at v k))) (sym plain) h))))
+      in_left m (flat_map run_of_instance v.instances ++ flat_map rule.methods_of_class v.classes ++ flat_map rule.methods_of_script v.scripts) (flat_map of_body v.bodies)
+      (in_left m (flat_map run_of_instance v.instances ++ flat_map rule.methods_of_class v.classes) (flat_map rule.methods_of_script v.scripts)
+      (in_left m (flat_map run_of_instance v.instances) (flat_map rule.methods_of_class v.classes)
+      (in_flat m run_of_instance v.instances k (instance_at v k) (is_at v.instances k no_instance low) (subst (λ (b : Bool). In m (if b then [] else rule.methods_of_instance (instance_at v k))) (sym plain) h))))
 
   -- ---- initializers
 

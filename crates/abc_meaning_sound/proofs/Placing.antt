@@ -13,14 +13,14 @@ use Rattle.abc_verify_typing.specs.Lists.{Each}
 use Rattle.abc_verify_typing.specs.Routines.{Routine, routine}
 use Rattle.abc_verify_typing.specs.declared.state.State.{State}
 use Rattle.abc_verify_typing.proofs.Fine.{stands}
-use Rattle.abc_meaning.specs.Entering.{starts}
+use Rattle.abc_meaning.specs.Entering.{starts_script}
 use Rattle.abc_meaning.specs.Setting.{Setting, routine_in, routine_of}
 use Rattle.abc_meaning.specs.World.{Outcome, Stopped, Went, World}
-use Rattle.abc_meaning.specs.At.{Act, Goes, Returns, Top, waiting}
-use Rattle.abc_meaning.specs.ThrowLaws.{IsVerified}
+use Rattle.abc_meaning.specs.At.{Act, Goes, Returns, Top, waiting_frame}
+use Rattle.abc_meaning.specs.ThrowLaws.{IsVerifiedSetting}
 use Rattle.abc_meaning.specs.Meaning.{Ran, first_state, first_world, meaning, meaning_if, runs_for, then_runs, too_small}
 use Rattle.abc_meaning.specs.Sound.{AreTypings, FrameSound, FramesSound, IsSound, SteppedSound, Typings, WaitingSound}
-use Rattle.abc_meaning.specs.Step.{acted, gives_back, resumed, resumes, runs, started, step, step_of}
+use Rattle.abc_meaning.specs.Step.{after_act, gives_back, after_resume, resumes, runs, after_start, step, step_of}
 use Rattle.abc_meaning.specs.Throwing.{Ends, Machine, Profile, Stepped, Steps, fault_at, last_script}
 use Rattle.abc_meaning_sound.proofs.Filed.{body_is}
 use Rattle.abc_meaning_sound.proofs.Verified.{file_given}
@@ -30,7 +30,7 @@ use Rattle.abc_meaning_sound.specs.Placed.{FaultsArePlaced}
 use Rattle.abc_meaning.specs.Told.{IsInstruction}
 use Rattle.abc_meaning_sound.proofs.Stopping.{TellsAt, puts_tells, settles_tells, stops_tells}
 
-module _ (p : Setting) (typings : Typings) (v : IsVerified p) (typed : AreTypings p typings) where
+module _ (p : Setting) (typings : Typings) (v : IsVerifiedSetting p) (typed : AreTypings p typings) where
   -- a place that has a state is an instruction
   pub placed : (n i : ℕ) (r : Routine) (s : State) → routine_of p n ≡ Some r → typings n i ≡ Some s → IsInstruction p.linked.file n i
   placed n i r s e at = go (body_of p.linked.file n) refl e
@@ -73,13 +73,13 @@ module _ (p : Setting) (typings : Typings) (v : IsVerified p) (typed : AreTyping
         let b : j ≡ i = cc in
         subst (λ (k : ℕ). IsInstruction p.linked.file k i) a (subst (λ (k : ℕ). IsInstruction p.linked.file n k) b is)
 
-    first_placed : (o : Outcome Frame) → TellsAt (started p o) m i fault → IsInstruction p.linked.file m i
+    first_placed : (o : Outcome Frame) → TellsAt (after_start p o) m i fault → IsInstruction p.linked.file m i
     first_placed (Went w f) t = absurd (puts_tells p m i fault w f [] t)
     first_placed (Stopped w why) t =
         let k = stops_tells p m i fault w [] why t in
         there (script_at p.linked.file (last_script p)).init 0 k.0 init_placed k.1
 
-    resumed_placed : (f : Frame) (fs : List Frame) (o : Outcome Top) → IsInstruction p.linked.file f.method f.place → TellsAt (resumed p f fs o) m i fault → IsInstruction p.linked.file m i
+    resumed_placed : (f : Frame) (fs : List Frame) (o : Outcome Top) → IsInstruction p.linked.file f.method f.place → TellsAt (after_resume p f fs o) m i fault → IsInstruction p.linked.file m i
     resumed_placed f fs (Went w top) is t = absurd (settles_tells p m i fault w fs top t)
     resumed_placed f fs (Stopped w why) is t =
         let k = stops_tells p m i fault w (f ∷ fs) why t in
@@ -87,9 +87,9 @@ module _ (p : Setting) (typings : Typings) (v : IsVerified p) (typed : AreTyping
 
     returned_placed : (w n : World) (x : Value) (fs : List Frame) → Each (WaitingSound p typings w.heap) fs → TellsAt (gives_back p n x fs) m i fault → IsInstruction p.linked.file m i
     returned_placed w n x [] s t = let e = t.1 in absurd cc
-    returned_placed w n x (f ∷ fs) s t = resumed_placed f fs (resumes p (waiting waits.Not f) f.wait x n) (below_placed w f s.0) t
+    returned_placed w n x (f ∷ fs) s t = resumed_placed f fs (resumes p (waiting_frame waits.Not f) f.wait x n) (below_placed w f s.0) t
 
-    acted_placed : (w : World) (f : Frame) (fs : List Frame) (o : Outcome Act) → FramesSound p typings w.heap (f ∷ fs) → TellsAt (acted p f fs o) m i fault → IsInstruction p.linked.file m i
+    acted_placed : (w : World) (f : Frame) (fs : List Frame) (o : Outcome Act) → FramesSound p typings w.heap (f ∷ fs) → TellsAt (after_act p f fs o) m i fault → IsInstruction p.linked.file m i
     acted_placed w f fs (Went n (Goes top)) s t = absurd (settles_tells p m i fault n fs top t)
     acted_placed w f fs (Went n (Returns x)) s t = returned_placed w n x fs s.1 t
     acted_placed w f fs (Stopped n why) s t =
@@ -97,7 +97,7 @@ module _ (p : Setting) (typings : Typings) (v : IsVerified p) (typed : AreTyping
         there f.method f.place k.0 (newest_placed w f s.0) k.1
 
     pub step_placed : (w : World) (fs : List Frame) → FramesSound p typings w.heap fs → TellsAt (step_of p w fs) m i fault → IsInstruction p.linked.file m i
-    step_placed w [] s t = first_placed (starts p (last_script p) w) t
+    step_placed w [] s t = first_placed (starts_script p (last_script p) w) t
     step_placed w (f ∷ fs) s t = acted_placed w f fs (runs p f (routine_of p f.method) w) s t
 
     -- ---- a run

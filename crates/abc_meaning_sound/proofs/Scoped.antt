@@ -13,7 +13,7 @@ use Rattle.abc_link_names.specs.declared.part.Part.{Part}
 use Rattle.abc_link_names.specs.declared.part.Part.TheVariants as parts
 use Rattle.abc_link_names.specs.PartsByNumber.{body_at}
 use Rattle.abc_file_types.specs.declared.code.Handler.{Handler}
-use Rattle.abc_verify_typing.specs.Routines.{Routine, catches}
+use Rattle.abc_verify_typing.specs.Routines.{Routine, catches_from}
 use Rattle.abc_verify_typing.specs.declared.catch.Catch.{Catch}
 use Rattle.abc_meaning.specs.Setting.{Setting, routine_of}
 use Rattle.abc_meaning.specs.Sound.{PartSound}
@@ -22,7 +22,7 @@ use Rattle.abc_meaning_sound.specs.Given.{IsScopeLayout, ScopesGiven}
 use Rattle.abc_meaning_sound.proofs.Growing.{first_is}
 use Rattle.abc_meaning_sound.proofs.Filed.{routine_found}
 
-catch_at : (l : LinkedFile) (b e : ℕ) (hs : List Handler) (i : ℕ) (c : Catch) → slice_get (catches l b e hs) i ≡ Some c → (c.layout ≡ layout_of l (parts.Catch b (e + i))) × (i < length hs)
+catch_at : (l : LinkedFile) (b e : ℕ) (hs : List Handler) (i : ℕ) (c : Catch) → slice_get (catches_from l b e hs) i ≡ Some c → (c.layout ≡ layout_of l (parts.Catch b (e + i))) × (i < length hs)
 catch_at l b e [] i c q = absurd cc
 catch_at l b e (h ∷ hs) zero c q =
     let same : layout_of l (parts.Catch b e) ≡ c.layout = cc in

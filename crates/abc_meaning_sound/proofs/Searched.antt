@@ -22,12 +22,12 @@ use Rattle.abc_objects.proofs.Opened.{global_made, host_made}
 use Rattle.abc_link_names.specs.Linked.{LinkedFile}
 use Rattle.abc_link_names.specs.Tree.{IsBelow}
 use Rattle.abc_link_names.proofs.Tree.{below_self}
-use Rattle.abc_objects.specs.Candidates.{Candidate, OfElement, OfLength, OfProperty, OfTrait, answer, candidates_on, elements, elements_from, fits, found, found_as, holder_of, is_answer, named, own_things, properties, property_at, things_along, traits, where_public}
+use Rattle.abc_objects.specs.Candidates.{Candidate, OfElement, OfLength, OfProperty, OfTrait, answer_of_search, candidates_on, element_candidates, elements_from, fits, found_candidate, found_as, holder_of, is_answer, found_or_not, own_things, property_candidates, property_at, things_along, traits, where_public}
 use Rattle.abc_objects.specs.Objects.{delegate_at, global_number}
 use Rattle.abc_objects.specs.Results.{passes_over, skip_for}
-use Rattle.abc_objects.specs.Scopes.{InHost, InScope, InScript, Place, has, no_node, node_at, parent_at, places, saved_places, scope_named, scope_number}
+use Rattle.abc_objects.specs.Scopes.{InHost, InScope, InScript, ScopePlace, has, no_node, node_at, parent_at, scope_places, saved_places, scope_named, scope_number}
 use Rattle.abc_objects.specs.Searches.{declared_found, found_in_scopes, found_on}
-use Rattle.abc_objects.specs.Spaces.{holds_public}
+use Rattle.abc_objects.specs.Spaces.{name_holds_public}
 use Rattle.abc_objects.specs.declared.found.Found.TheVariants as founds
 use Rattle.abc_objects.specs.declared.found.ScopeFound.TheVariants as results
 use Rattle.abc_objects.specs.declared.found.Want.{Want}
@@ -95,16 +95,16 @@ module _ (p : Setting) (file : FileGiven p) (scopes : ScopesGiven p) where
   missing_found w want v false = tt
 
   declared_sound : (w : World) (o : ObjId) (from : ℕ) (name : Name) (want : Want) → WorldSound p w → IsObject w.heap o → IsBelow l (object_at w.heap.objects o.0).layout from → FoundSound p w want (declared_found l w.heap (object_at w.heap.objects o.0).layout from name want) (values.Obj o)
-  unfolding declared_found answer
+  unfolding declared_found answer_of_search
   declared_sound w o from name want z inner below = go (find (is_answer l w.heap name (skip_for want)) (traits l (object_at w.heap.objects o.0).layout from)) refl
     where
-      of : (c : Candidate) → CandidateSound p file scopes w z o inner c → is_answer l w.heap name (skip_for want) c ≡ true → FoundSound p w want (found l c) (values.Obj o)
+      of : (c : Candidate) → CandidateSound p file scopes w z o inner c → is_answer l w.heap name (skip_for want) c ≡ true → FoundSound p w want (found_candidate l c) (values.Obj o)
       of (OfTrait x passed t) h e = member_found w z o inner want t.declared.member h (and_right (fits l w.heap name (OfTrait x passed t)) (not (passes_over (skip_for want) t.declared.member)) e)
       of (OfLength k) h e = absurd h
       of (OfElement k i) h e = absurd h
       of (OfProperty k s v) h e = absurd h
 
-      go : (r : Option Candidate) → find (is_answer l w.heap name (skip_for want)) (traits l (object_at w.heap.objects o.0).layout from) ≡ r → FoundSound p w want (named l r (list_any (fits l w.heap name) (traits l (object_at w.heap.objects o.0).layout from))) (values.Obj o)
+      go : (r : Option Candidate) → find (is_answer l w.heap name (skip_for want)) (traits l (object_at w.heap.objects o.0).layout from) ≡ r → FoundSound p w want (found_or_not l r (list_any (fits l w.heap name) (traits l (object_at w.heap.objects o.0).layout from))) (values.Obj o)
       go None e = missing_found w want (values.Obj o) (list_any (fits l w.heap name) (traits l (object_at w.heap.objects o.0).layout from))
       go (Some c) e = let f = find_passes (CandidateSound p file scopes w z o inner) (is_answer l w.heap name (skip_for want)) (traits l (object_at w.heap.objects o.0).layout from) c (traits_sound p file scopes w z o inner from below) e in of c f.0 f.1
 
@@ -126,7 +126,7 @@ module _ (p : Setting) (file : FileGiven p) (scopes : ScopesGiven p) where
           elements_sound o (k + 1) vs inner (λ j x e. let next : k + suc j ≡ (k + 1) + j = omega arith in subst (λ (i : ℕ). slice_get (object_at w.heap.objects o).elements i ≡ Some x) next (g (suc j) x e)),
         )
 
-    all_elements : (o : ℕ) → IsObject w.heap (obj_id o) → Each ThingSound (elements o (object_at w.heap.objects o))
+    all_elements : (o : ℕ) → IsObject w.heap (obj_id o) → Each ThingSound (element_candidates o (object_at w.heap.objects o))
     all_elements o inner = go (is_array (object_at w.heap.objects o).what)
       where
         go : (b : Bool) → Each ThingSound (if b then OfLength o ∷ elements_from o 0 (object_at w.heap.objects o).elements else [])
@@ -155,21 +155,21 @@ module _ (p : Setting) (file : FileGiven p) (scopes : ScopesGiven p) where
       | inl low ↦
           let ob = object_at w.heap.objects o in
           let stands = z.stands.objects o ob (there w.heap.objects o low) in
-          Each-append ThingSound (elements o ob) (properties o ob) (all_elements o low) (held_found o (reverse ob.properties) (Each-reverse Held ob.properties (each_held ob.properties stands.properties)))
-      | inr past ↦ subst (λ (ob : Object). Each ThingSound (elements o ob ++ properties o ob)) (sym (past_end w.heap.objects o past)) tt
+          Each-append ThingSound (element_candidates o ob) (property_candidates o ob) (all_elements o low) (held_found o (reverse ob.properties) (Each-reverse Held ob.properties (each_held ob.properties stands.properties)))
+      | inr past ↦ subst (λ (ob : Object). Each ThingSound (element_candidates o ob ++ property_candidates o ob)) (sym (past_end w.heap.objects o past)) tt
     ]
 
     along_sound : (at : Option ℕ) → Each ThingSound (things_along w.heap at)
     along_sound at = each_flat ThingSound (own_things w.heap) (way (delegate_at w.heap) at) things_sound
 
     public_sound : (name : Name) (cs : List Candidate) → Each ThingSound cs → Each ThingSound (where_public l name cs)
-    public_sound name cs a = go (holds_public l name.spaces)
+    public_sound name cs a = go (name_holds_public l name.spaces)
       where
         go : (b : Bool) → Each ThingSound (if b then cs else [])
         go true = a
         go false = tt
 
-    thing_found : (v : Value) (c : Candidate) → ThingSound c → FoundSound p w wants.Read (found l c) v
+    thing_found : (v : Value) (c : Candidate) → ThingSound c → FoundSound p w wants.Read (found_candidate l c) v
     thing_found v (OfTrait x passed t) h = absurd h
     thing_found v (OfLength o) h = h
     thing_found v (OfElement o k) h = h
@@ -177,7 +177,7 @@ module _ (p : Setting) (file : FileGiven p) (scopes : ScopesGiven p) where
 
     module _ (name : Name) where
       abbrev Fine : Value → Candidate → Type 0
-      Fine v c = is_answer l w.heap name (skip_for wants.Read) c ≡ true → FoundSound p w wants.Read (found l c) v
+      Fine v c = is_answer l w.heap name (skip_for wants.Read) c ≡ true → FoundSound p w wants.Read (found_candidate l c) v
 
       things_fine : (v : Value) → Each (Fine v) (where_public l name (things_along w.heap (holder_of w.heap v)))
       things_fine v = Each-map ThingSound (Fine v) (λ c h e. thing_found v c h) (where_public l name (things_along w.heap (holder_of w.heap v))) (public_sound name (things_along w.heap (holder_of w.heap v)) (along_sound (holder_of w.heap v)))
@@ -201,16 +201,16 @@ module _ (p : Setting) (file : FileGiven p) (scopes : ScopesGiven p) where
       all_fine (values.Space n) x = things_fine (values.Space n)
 
       on_sound : (v : Value) → Exists l w.heap v → FoundSound p w wants.Read (found_on l w.heap v name wants.Read) v
-      unfolding found_on answer
+      unfolding found_on answer_of_search
       on_sound v x = go (find (is_answer l w.heap name (skip_for wants.Read)) (candidates_on l w.heap name v)) refl
         where
-          go : (r : Option Candidate) → find (is_answer l w.heap name (skip_for wants.Read)) (candidates_on l w.heap name v) ≡ r → FoundSound p w wants.Read (named l r (list_any (fits l w.heap name) (candidates_on l w.heap name v))) v
+          go : (r : Option Candidate) → find (is_answer l w.heap name (skip_for wants.Read)) (candidates_on l w.heap name v) ≡ r → FoundSound p w wants.Read (found_or_not l r (list_any (fits l w.heap name) (candidates_on l w.heap name v))) v
           go None e = missing_found w wants.Read v (list_any (fits l w.heap name) (candidates_on l w.heap name v))
           go (Some c) e = let f = find_passes (Fine v) (is_answer l w.heap name (skip_for wants.Read)) (candidates_on l w.heap name v) c (all_fine v x) e in f.0 f.1
 
     -- ---- in scopes
 
-    abbrev PlaceSound : Place → Type 0
+    abbrev PlaceSound : ScopePlace → Type 0
     PlaceSound (InScope e) = IsObject w.heap e.object
     PlaceSound (InScript s) = s < length l.file.scripts
     PlaceSound InHost = Unit {0}
@@ -249,7 +249,7 @@ module _ (p : Setting) (file : FileGiven p) (scopes : ScopesGiven p) where
         low_way None h = subst (Each (λ (x : ℕ). x < length w.heap.scopes)) (sym (way_none (parent_at w.heap))) tt
         low_way (Some s) h = saved_low (suc s.0) s.0 (omega arith) h
 
-    places_sound : (es : List ScopeEntry) (saved : Option ScopeId) → Each (λ (e : ScopeEntry). IsObject w.heap e.object) es → IsScope w.heap saved → Each PlaceSound (places l w.heap es saved)
+    places_sound : (es : List ScopeEntry) (saved : Option ScopeId) → Each (λ (e : ScopeEntry). IsObject w.heap e.object) es → IsScope w.heap saved → Each PlaceSound (scope_places l w.heap es saved)
     places_sound es saved a h =
         let n = length l.file.scripts in
         Each-append PlaceSound (map InScope (reverse es)) (saved_places w.heap saved ++ (map InScript (range_with_len 0 n) ++ InHost ∷ []))
@@ -257,7 +257,7 @@ module _ (p : Setting) (file : FileGiven p) (scopes : ScopesGiven p) where
         (Each-append PlaceSound (saved_places w.heap saved) (map InScript (range_with_len 0 n) ++ InHost ∷ []) (saved_sound saved h)
         (Each-append PlaceSound (map InScript (range_with_len 0 n)) (InHost ∷ []) (each_mapped (λ (s : ℕ). s < 0 + n) PlaceSound InScript (range_with_len 0 n) (λ s b. let low : s < n = omega (arith, b) in low) (each_ranged 0 n)) (tt, tt)))
 
-    place_found : (q : Place) → PlaceSound q → ScopeFoundSound p w (scope_named w.heap w.started (Some q))
+    place_found : (q : ScopePlace) → PlaceSound q → ScopeFoundSound p w (scope_named w.heap w.started (Some q))
     place_found (InScope e) h = h
     place_found (InScript s) h = go (get_or w.started s false)
       where
@@ -268,11 +268,11 @@ module _ (p : Setting) (file : FileGiven p) (scopes : ScopesGiven p) where
 
     in_scopes_sound : (es : List ScopeEntry) (saved : Option ScopeId) (name : Name) → Each (λ (e : ScopeEntry). IsObject w.heap e.object) es → IsScope w.heap saved → ScopeFoundSound p w (found_in_scopes l w.heap es saved w.started name)
     unfolding found_in_scopes
-    in_scopes_sound es saved name a h = go (find (has l w.heap name) (places l w.heap es saved)) refl
+    in_scopes_sound es saved name a h = go (find (has l w.heap name) (scope_places l w.heap es saved)) refl
       where
-        go : (r : Option Place) → find (has l w.heap name) (places l w.heap es saved) ≡ r → ScopeFoundSound p w (scope_named w.heap w.started r)
+        go : (r : Option ScopePlace) → find (has l w.heap name) (scope_places l w.heap es saved) ≡ r → ScopeFoundSound p w (scope_named w.heap w.started r)
         go None e = tt
-        go (Some q) e = place_found q (find_passes PlaceSound (has l w.heap name) (places l w.heap es saved) q (places_sound es saved a h) e).0
+        go (Some q) e = place_found q (find_passes PlaceSound (has l w.heap name) (scope_places l w.heap es saved) q (places_sound es saved a h) e).0
 
   pub search_given : SearchGiven p
   search_given = record {

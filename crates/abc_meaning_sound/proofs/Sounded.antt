@@ -21,16 +21,16 @@ use Rattle.abc_verify_typing.specs.Routines.{Routine}
 use Rattle.abc_verify_typing.specs.declared.state.Scope.{Scope}
 use Rattle.abc_meaning.specs.Setting.{Setting, routine_of}
 use Rattle.abc_meaning.specs.World.{Sticks, Stopped, World}
-use Rattle.abc_meaning.specs.ThrowLaws.{IsVerified}
+use Rattle.abc_meaning.specs.ThrowLaws.{IsVerifiedSetting}
 use Rattle.abc_meaning.specs.Sound.{AreTypings, FrameSound, IsOfKind, IsSound, ScopeHolds, SteppedSound, Typings}
-use Rattle.abc_meaning.specs.Step.{acted, runs, step}
+use Rattle.abc_meaning.specs.Step.{after_act, runs, step}
 use Rattle.abc_meaning.specs.Throwing.{Ends, Machine, Stepped, Stuck}
 use Rattle.abc_verify_typing.proofs.Fine.{stands}
 use Rattle.abc_meaning_sound.proofs.Filed.{routine_found}
 use Rattle.abc_meaning_sound.proofs.Lists.{each_at, inside}
 use Rattle.abc_meaning_sound.proofs.Never.{stays_sound}
 use Rattle.abc_meaning_sound.specs.Premise.{SoundFramesRun}
-use Rattle.abc_meaning.specs.Running.{HasInstruction, IsThere}
+use Rattle.abc_meaning.specs.Running.{HasInstruction, IsFrameThere}
 use Rattle.abc_meaning_sound.proofs.Formed.{row_low}
 
 -- ---- what a frame names is there
@@ -48,7 +48,7 @@ module _ (l : LinkedFile) (h : Heap) where
   scopes_there (s ∷ ss) [] e = absurd e
   scopes_there (s ∷ ss) (x ∷ es) e = (e.0.object.exists, scopes_there ss es e.1)
 
-frame_there : (p : Setting) (typings : Typings) (w : World) (f : Frame) → FrameSound p typings w.heap f → IsThere p w f
+frame_there : (p : Setting) (typings : Typings) (w : World) (f : Frame) → FrameSound p typings w.heap f → IsFrameThere p w f
 frame_there p typings w f s =
     let h = w.heap in
     let is = s.typed.is in
@@ -65,10 +65,10 @@ frame_there p typings w f s =
 not_stuck : (p : Setting) (typings : Typings) (w : World) (s : Stepped) → SteppedSound p typings s → s ≡ Ends w Stuck → ⊥
 not_stuck p typings w s h e = (subst (SteppedSound p typings) e h).0 refl
 
-act_is_free : (p : Setting) (typings : Typings) (w : World) (f : Frame) (fs : List Frame) → IsVerified p → AreTypings p typings → IsSound p typings (record { world = w; frames = f ∷ fs }) → (n : World) → runs p f (routine_of p f.method) w ≢ Stopped n Sticks
+act_is_free : (p : Setting) (typings : Typings) (w : World) (f : Frame) (fs : List Frame) → IsVerifiedSetting p → AreTypings p typings → IsSound p typings (record { world = w; frames = f ∷ fs }) → (n : World) → runs p f (routine_of p f.method) w ≢ Stopped n Sticks
 act_is_free p typings w f fs v typed s n e =
     let q : Machine = record { world = w; frames = f ∷ fs } in
-    not_stuck p typings n (step p q) (stays_sound p typings q v typed s) (ap (acted p f fs) e)
+    not_stuck p typings n (step p q) (stays_sound p typings q v typed s) (ap (after_act p f fs) e)
 
 -- ---- its place, and the room of its frame
 
@@ -90,7 +90,7 @@ as_long (i ∷ is) = omega (arith, one_long i, as_long is)
 code_short : (b : Body) → IsReadyBody b → length b.code < 2 ^ 23
 code_short b ready = omega (arith, as_long b.code, ready.code.short)
 
-pub place_counted : (p : Setting) (n i : ℕ) (r : Routine) (instr : Instr) → IsVerified p → routine_of p n ≡ Some r → slice_get r.code i ≡ Some instr → i + 1 < 2 ^ 32
+pub place_counted : (p : Setting) (n i : ℕ) (r : Routine) (instr : Instr) → IsVerifiedSetting p → routine_of p n ≡ Some r → slice_get r.code i ≡ Some instr → i + 1 < 2 ^ 32
 place_counted p n i r instr v e at =
     let b = routine_found p v.linked n r e in
     let short = code_short (body_at p.linked.file b.body) b.is.ready in
@@ -105,7 +105,7 @@ can_at n (x ∷ xs) (suc i) instr a e = can_at n xs i instr a.1 e
 
 -- ---- all together
 
-has_instruction : (p : Setting) (typings : Typings) (h : Heap) (f : Frame) → IsVerified p → AreTypings p typings → FrameSound p typings h f → HasInstruction p f
+has_instruction : (p : Setting) (typings : Typings) (h : Heap) (f : Frame) → IsVerifiedSetting p → AreTypings p typings → FrameSound p typings h f → HasInstruction p f
 has_instruction p typings h f v typed s =
     let r = s.stands.routine in
     let fine = (typed f.method r s.stands.body).fine f.place s.typed.state s.typed.typed in

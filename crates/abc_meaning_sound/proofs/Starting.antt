@@ -15,7 +15,7 @@ use Rattle.abc_heap_store.specs.declared.records.Limit.TheVariants.{Objects, Cel
 use Rattle.abc_heap_store.specs.declared.records.Limits.{Limits}
 use Rattle.abc_heap_store.specs.declared.records.What.{What}
 use Rattle.abc_heap_store.specs.declared.records.What.TheVariants as whats
-use Rattle.abc_objects.specs.Opening.{above_host, class_object, formula_names, function_object, function_objects, global_object, host_object, opened, opening, opening_objects, property_names, prototype_id, prototype_object}
+use Rattle.abc_objects.specs.Opening.{above_host, host_class_object, formula_names, function_object, function_objects, global_object, host_object, opening_object, opening, opening_objects, property_names, prototype_id, prototype_object}
 use Rattle.abc_objects.specs.Stands.{StandsOver, host_layout}
 use Rattle.abc_objects.specs.Starts.{start_values}
 use Rattle.abc_objects.proofs.Made.{host_found, object_slots, part_found, slots_are}
@@ -34,7 +34,7 @@ use Rattle.abc_link_names.specs.declared.start.Start.TheVariants as starts
 use Rattle.abc_verify_typing.specs.Lists.{Each}
 use Rattle.abc_verify_typing.proofs.Lists.{Each-append, Each-at}
 use Rattle.abc_meaning.specs.Setting.{Setting}
-use Rattle.abc_meaning.specs.ThrowLaws.{AreCounted, IsVerified}
+use Rattle.abc_meaning.specs.ThrowLaws.{AreCounted, IsVerifiedSetting}
 use Rattle.abc_meaning.specs.Meaning.{first_state, first_world, too_small}
 use Rattle.abc_meaning.specs.Sound.{IsSound, ObjectSound, PartSound, SlotHolds, Typings, WhatSound}
 use Rattle.abc_meaning_sound.proofs.Growing.{first_is}
@@ -45,7 +45,7 @@ module _ (p : Setting) (linked : IsLinkedFile p.linked) (limits : Limits) (h : H
   abbrev l : LinkedFile
   l = p.linked
 
-  opened_sound : (x : Part) (above : Option HostClass) (what : What) → HasLayout l.file x → PartSound l h x → WhatSound p h (layout_of l x).0 what → ObjectSound p h (opened l x above what)
+  opened_sound : (x : Part) (above : Option HostClass) (what : What) → HasLayout l.file x → PartSound l h x → WhatSound p h (layout_of l x).0 what → ObjectSound p h (opening_object l x above what)
   opened_sound x above what has part w =
       let f = part_found l linked x has in
       record { slots = starts_hold l h linked (layout_of l x).0 z f.0; what = w; part = subst (PartSound l h) (sym f.1) part; first_of = first_is l x f.1 }
@@ -78,7 +78,7 @@ module _ (p : Setting) (linked : IsLinkedFile p.linked) (limits : Limits) (h : H
   prototype_there hosts.ArgumentError b = omega (arith, b)
   prototype_there hosts.Array b = omega (arith, b)
 
-  class_sound : (c : HostClass) → 14 ≤ length h.objects → ObjectSound p h (class_object l c)
+  class_sound : (c : HostClass) → 14 ≤ length h.objects → ObjectSound p h (host_class_object l c)
   class_sound c b =
       let s = opened_sound (parts.HostClassObject c) (Some hosts.Class) (whats.HostClass c) tt tt tt in
       let first : slice_get (slots_of l (layout_of l (parts.HostClassObject c)).0) 0 ≡ Some first_slot = ap (λ (ss : List SlotInfo). slice_get ss 0) (class_slots c) in
@@ -102,7 +102,7 @@ module _ (p : Setting) (linked : IsLinkedFile p.linked) (limits : Limits) (h : H
       let n = length l.file.scripts in
       let globals = map (global_object l) (range_with_len 0 n) in
       let host = host_object l (property_names fs) in
-      let natives = map (class_object l) host_classes in
+      let natives = map (host_class_object l) host_classes in
       let plain = opened_sound (parts.Host hosts.Object) (Some hosts.Object) whats.HostObject tt tt tt in
       let prototypes = map (prototype_object l) host_classes in
       let functions = function_objects l (length fs) in
@@ -111,7 +111,7 @@ module _ (p : Setting) (linked : IsLinkedFile p.linked) (limits : Limits) (h : H
       (Each-append (ObjectSound p h) (prototypes ++ natives) functions
       (Each-append (ObjectSound p h) prototypes natives
       (each_mapped (prototype_object l) host_classes (λ c. opened_sound (parts.Host hosts.Object) (above_host c) whats.Plain tt tt tt))
-      (each_mapped (class_object l) host_classes (λ c. class_sound c b)))
+      (each_mapped (host_class_object l) host_classes (λ c. class_sound c b)))
       (opened_sound (parts.Host hosts.Function) (Some hosts.Function) whats.Trace tt tt tt, each_mapped (λ (k : ℕ). function_object l (whats.Formula k)) (range_with_len 0 (length fs)) (λ k. opened_sound (parts.Host hosts.Function) (Some hosts.Function) (whats.Formula k) tt tt tt)))
       (record { slots = plain.slots; what = plain.what; part = plain.part; first_of = plain.first_of }, tt))
       (each_ranged (global_object l) 0 n (λ s low. opened_sound (parts.Global s) (Some hosts.Object) (whats.Global s) (let inner : s < n = omega (arith, low) in inner) tt tt))
@@ -126,7 +126,7 @@ not_small h e = go (nat_lt h.limits.objects (length h.objects)) refl (nat_lt h.l
     go false q true r f = absurd cc
     go false q false r f = (ltb-false h.limits.objects (length h.objects) q, ltb-false h.limits.cells (cells_used h) r)
 
-pub begins_sound : (p : Setting) (typings : Typings) (limits : Limits) → IsVerified p → AreCounted limits → too_small (first_world p limits).heap ≡ None → IsSound p typings (first_state p limits)
+pub begins_sound : (p : Setting) (typings : Typings) (limits : Limits) → IsVerifiedSetting p → AreCounted limits → too_small (first_world p limits).heap ≡ None → IsSound p typings (first_state p limits)
 begins_sound p typings limits v counted small =
     let fs = formula_names p.formulas in
     let h = opening p.linked fs limits in

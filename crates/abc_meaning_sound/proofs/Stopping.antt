@@ -13,7 +13,7 @@ use Rattle.abc_frames.specs.Frame.{Frame}
 use Rattle.abc_file_types.specs.declared.code.Handler.{Handler}
 use Rattle.abc_meaning.specs.Objects.{new_of_host}
 use Rattle.abc_meaning.specs.Setting.{Setting, routine_of}
-use Rattle.abc_meaning.specs.World.{Errs, Faults, Fills, Outcome, Run, Sticks, Stop, Stopped, Throws, Went, World, done, stop, ◌>>◌}
+use Rattle.abc_meaning.specs.World.{Errs, Faults, Fills, Outcome, Run, Sticks, Stop, Stopped, Throws, Went, World, pure, stop, ◌>>◌}
 use Rattle.abc_meaning.specs.At.{Above, Stays, Top}
 use Rattle.abc_meaning.specs.Step.{put_on, puts, settles, size_of_frame, size_of_frames}
 use Rattle.abc_meaning.specs.Throwing.{Ends, Profile, Stepped, Stuck, catcher, caught_at, fault_at, goes_on, has_stack, lands, stops, throws_made, unwinds}
@@ -57,7 +57,7 @@ module _ (p : Setting) (m i : ℕ) (fault : Fault) where
   -- ---- frames that are put on top tell none
 
   abbrev within : Bool → Limit → Run (Unit {0})
-  within b which = if b then done tt else stop (Fills which)
+  within b which = if b then pure tt else stop (Fills which)
 
   pub puts_tells : (w : World) (g : Frame) (fs : List Frame) → TellsAt (puts p w g fs) m i fault → ⊥
   puts_tells w g fs t = go (nat_le (length fs + 1) w.heap.limits.frames) (nat_le (size_of_frames p fs + size_of_frame p g) w.heap.limits.stack) t

@@ -7,7 +7,7 @@ use Rattle.abc_heap_values.specs.declared.values.ObjId.{ObjId}
 use Rattle.abc_heap_values.specs.declared.values.Value.{Value}
 use Rattle.abc_heap_values.specs.declared.values.Value.TheVariants.{Null, Num, Space, Obj}
 use Rattle.abc_heap_store.specs.Heap.{object_at}
-use Rattle.abc_objects.specs.Values.{Holds, IsObject}
+use Rattle.abc_objects.specs.Values.{IsValueOf, IsObject}
 use Rattle.abc_link_names.specs.Linked.{IsLinkedFile, LinkedFile, above}
 use Rattle.abc_link_names.specs.Slots.{slot_numbered, slots_of}
 use Rattle.abc_link_names.specs.Tree.{IsBelow, up}
@@ -17,7 +17,7 @@ use Rattle.abc_link_names.specs.declared.types.Kind.{Kind}
 use Rattle.abc_link_names.specs.declared.types.Kind.TheVariants as kinds
 use Rattle.abc_link_names.specs.declared.types.SlotInfo.{SlotInfo}
 use Rattle.abc_link_names.proofs.Tree.{below_trans}
-use Rattle.abc_verify_typing.specs.Instructions.{operand, second}
+use Rattle.abc_verify_typing.specs.Instructions.{operand, second_local}
 use Rattle.abc_verify_typing.specs.Rows.{Shape}
 use Rattle.abc_verify_typing.specs.declared.row.Locals.{Locals}
 use Rattle.abc_verify_typing.specs.declared.row.Locals.TheVariants.{Untouched, Reads, Sets, Walks}
@@ -26,11 +26,11 @@ use Rattle.abc_verify_typing.specs.declared.row.Need.TheVariants as needed
 use Rattle.abc_verify_typing.specs.declared.row.Operand.{Operand}
 use Rattle.abc_verify_typing.specs.declared.row.Operand.TheVariants as operands
 use Rattle.abc_file_types.specs.declared.code.Instr.{Instr}
-use Rattle.abc_verify_typing.specs.Effects.{Here, args, depth, kind_at, kind_of_slot, needs, slot, slot_in, taken}
+use Rattle.abc_verify_typing.specs.Effects.{Here, args, depth, kind_at, kind_of_slot, needs, slot_kind_at, slot_kind_in, stack_below}
 use Rattle.abc_verify_typing.specs.Lists.{Each2}
 use Rattle.abc_verify_typing.specs.Routines.{Routine}
-use Rattle.abc_verify_typing.specs.Rules.{all_suit, has_locals, has_slot, is_instance, is_number, is_walked, may_pop, may_push, names_scope, suits, super_layout}
-use Rattle.abc_verify_typing.specs.Standing.{here}
+use Rattle.abc_verify_typing.specs.Rules.{all_suit, has_locals, has_slot, is_instance_of_layout, is_kind_number, is_walked, may_pop, may_push, names_scope, suits, super_layout}
+use Rattle.abc_verify_typing.specs.Standing.{here_with}
 use Rattle.abc_verify_typing.specs.declared.rule.VerifyRule.{VerifyRule}
 use Rattle.abc_verify_typing.specs.declared.rule.VerifyRule.TheVariants.{PoolIndex, NameForm, StackUnder, StackOver, ScopeUnder, ScopeOver, LocalIndex, NotSpace, NotObject, SlotIndex, ScopeIndex, NotHere, NotIndex}
 use Rattle.abc_verify_typing.specs.declared.state.State.{State}
@@ -40,16 +40,16 @@ use Rattle.abc_verify_typing.proofs.Member.{and_both, and_left, and_right}
 use Rattle.abc_verify_typing.proofs.Reaching.{below_reached, reached}
 use Rattle.abc_frames.specs.Frame.{Frame}
 use Rattle.abc_meaning.specs.Setting.{Setting}
-use Rattle.abc_meaning.specs.World.{World, object}
+use Rattle.abc_meaning.specs.World.{World, object_named}
 use Rattle.abc_meaning.specs.Sound.{IsOfKind, ScopeHolds, Typings}
-use Rattle.abc_meaning.specs.Tests.{all_meet, can_run, has_scope, is_below, is_receiver, meets, walks_number, has_slot as object_has_slot, is_number as value_is_number}
+use Rattle.abc_meaning.specs.Tests.{all_meet, can_run, has_scope, is_below, is_receiver, meets, walks_number, has_slot_numbered as object_has_slot, is_some_number as value_is_number}
 use Rattle.abc_meaning_sound.specs.Keeping.{Ready}
 use Rattle.abc_meaning_sound.proofs.Lists.{there}
 
 -- ---- slots by numbers
 
-slot_below : (l : LinkedFile) → IsGood l → (k x y j : ℕ) (kind : Kind) → up l k x ≡ y → slot l y j ≡ Some kind → slot l x j ≡ Some kind
-slot_below l g zero x y j kind e h = subst (λ z. slot l z j ≡ Some kind) (sym e) h
+slot_below : (l : LinkedFile) → IsGood l → (k x y j : ℕ) (kind : Kind) → up l k x ≡ y → slot_kind_at l y j ≡ Some kind → slot_kind_at l x j ≡ Some kind
+slot_below l g zero x y j kind e h = subst (λ z. slot_kind_at l z j ≡ Some kind) (sym e) h
 slot_below l g (suc k) x y j kind e h = g.inherits x j kind (slot_below l g k (above l x) y j kind e h)
 
 -- the slot of a number, where there is one
@@ -60,22 +60,22 @@ pub record IsSlot (l : LinkedFile) (x j : ℕ) (kind : Kind) : Type 0 where
   pub at : slice_get (slots_of l x) place ≡ Some info
   pub kind_is : kind_of_type l info.ty ≡ kind
 
-slot_found : (l : LinkedFile) (x j : ℕ) (kind : Kind) → slot l x j ≡ Some kind → IsSlot l x j kind
+slot_found : (l : LinkedFile) (x j : ℕ) (kind : Kind) → slot_kind_at l x j ≡ Some kind → IsSlot l x j kind
 slot_found l x j kind e = go (slot_numbered l x j) refl e
   where
     at : (i : ℕ) → slot_numbered l x j ≡ Some i → (o : Option SlotInfo) → slice_get (slots_of l x) i ≡ o → kind_of_slot l o ≡ Some kind → IsSlot l x j kind
     at i n None q e = absurd cc
     at i n (Some info) q e = record { place = i; info = info; numbered = n; at = q; kind_is = cc }
 
-    go : (o : Option ℕ) → slot_numbered l x j ≡ o → slot_in l (slots_of l x) o ≡ Some kind → IsSlot l x j kind
+    go : (o : Option ℕ) → slot_numbered l x j ≡ o → slot_kind_in l (slots_of l x) o ≡ Some kind → IsSlot l x j kind
     go None n e = absurd cc
     go (Some i) n e = at i n (slice_get (slots_of l x) i) refl e
 
 -- an object of a kind with a slot has that slot
-pub slotted : (l : LinkedFile) → IsLinkedFile l → (x y j : ℕ) → IsBelow l x y → is_some (slot l y j) ≡ true → (kind : Kind) × (slot l y j ≡ Some kind) × IsSlot l x j kind
-slotted l linked x y j b e = go (slot l y j) refl e
+pub slotted : (l : LinkedFile) → IsLinkedFile l → (x y j : ℕ) → IsBelow l x y → is_some (slot_kind_at l y j) ≡ true → (kind : Kind) × (slot_kind_at l y j ≡ Some kind) × IsSlot l x j kind
+slotted l linked x y j b e = go (slot_kind_at l y j) refl e
   where
-    go : (o : Option Kind) → slot l y j ≡ o → is_some o ≡ true → (kind : Kind) × (slot l y j ≡ Some kind) × IsSlot l x j kind
+    go : (o : Option Kind) → slot_kind_at l y j ≡ o → is_some o ≡ true → (kind : Kind) × (slot_kind_at l y j ≡ Some kind) × IsSlot l x j kind
     go None is e = absurd cc
     go (Some kind) is e = (kind, is, slot_found l x j kind (slot_below l (good l linked) b.steps x y j kind b.climb is))
 
@@ -90,17 +90,17 @@ local_at p w (k ∷ ks) [] n e l = absurd e
 
 module _ (p : Setting) (linked : IsLinkedFile p.linked) (typings : Typings) (w : World) (f : Frame) (r : Routine) (s : State) (instr : Instr) (row : Shape) (ready : Ready p typings w f r s instr row) where
   abbrev at_here : Here
-  at_here = here p.linked r f.place instr row
+  at_here = here_with p.linked r f.place instr row
 
-  object_found : (o : ObjId) → IsObject w.heap o → object o w ≡ Some (object_at w.heap.objects o.0)
+  object_found : (o : ObjId) → IsObject w.heap o → object_named o w ≡ Some (object_at w.heap.objects o.0)
   object_found o h = there w.heap.objects o.0 h
 
-  slotted_meets : (x : LayoutId) (o : ObjId) → Holds p.linked w.heap (kinds.Obj x) (Obj o) → has_slot p.linked (operand instr) (kinds.Obj x) ≡ true → object_has_slot p (operand instr) (object o w) ≡ true
+  slotted_meets : (x : LayoutId) (o : ObjId) → IsValueOf p.linked w.heap (kinds.Obj x) (Obj o) → has_slot p.linked (operand instr) (kinds.Obj x) ≡ true → object_has_slot p (operand instr) (object_named o w) ≡ true
   slotted_meets x o h e =
       let z = slotted p.linked linked (object_at w.heap.objects o.0).layout x.0 (operand instr) h.1 e in
       ap (object_has_slot p (operand instr)) (object_found o h.0) ∙ ap is_some z.2.numbered
 
-  instance_meets : (o : Option LayoutId) (k : Kind) (v : Value) → IsOfKind p.linked w.heap k v → is_instance p.linked o k ≡ true → is_receiver p w o v ≡ true
+  instance_meets : (o : Option LayoutId) (k : Kind) (v : Value) → IsOfKind p.linked w.heap k v → is_instance_of_layout p.linked o k ≡ true → is_receiver p w o v ≡ true
   instance_meets None k v h q = refl
   instance_meets (Some m) k Null h q = refl
   instance_meets (Some m) (kinds.Obj x) (Obj o) h q =
@@ -140,14 +140,14 @@ module _ (p : Setting) (linked : IsLinkedFile p.linked) (typings : Typings) (w :
   idle x g (n ∷ ns) [] = refl
   idle x g (n ∷ ns) (k ∷ ks) = and_both _ _ (g n k) (idle x g ns ks)
 
-  suit : (x : VerifyRule) → all_suit at_here x (needs at_here) (taken at_here s) ≡ true
+  suit : (x : VerifyRule) → all_suit at_here x (needs at_here) (stack_below at_here s) ≡ true
   suit NotSpace = ready.kept NotSpace
   suit NotObject = ready.kept NotObject
   suit SlotIndex = ready.kept SlotIndex
   suit NotIndex = and_left _ _ (ready.kept NotIndex)
-  suit x = idle x (λ n k. grind arith) (needs at_here) (taken at_here s)
+  suit x = idle x (λ n k. grind arith) (needs at_here) (stack_below at_here s)
 
-  number_is : (k : Kind) (v : Value) → Holds p.linked w.heap k v → is_number k ≡ true → value_is_number (Some v) ≡ true
+  number_is : (k : Kind) (v : Value) → IsValueOf p.linked w.heap k v → is_kind_number k ≡ true → value_is_number (Some v) ≡ true
   number_is k (Num n) h e = refl
   number_is kinds.Num v h e = absurd (grind (arith, h))
   number_is k v h e = absurd cc
@@ -155,8 +155,8 @@ module _ (p : Setting) (linked : IsLinkedFile p.linked) (typings : Typings) (w :
   walks_meet : (x : Locals) → is_walked at_here s x ≡ true → has_locals x instr (length f.locals) ≡ true → walks_number x instr f.locals ≡ true
   walks_meet Walks e l =
       let n = ltb-true _ _ (and_left _ _ (and_right _ _ l)) in
-      let v = local_at p w s.locals f.locals (second instr) ready.is.locals n in
-      ap value_is_number v.1 ∙ number_is (kind_at s.locals (second instr)) v.0 v.2.kind e
+      let v = local_at p w s.locals f.locals (second_local instr) ready.is.locals n in
+      ap value_is_number v.1 ∙ number_is (kind_at s.locals (second_local instr)) v.0 v.2.kind e
   walks_meet Untouched e l = refl
   walks_meet Reads e l = refl
   walks_meet (Sets source) e l = refl
@@ -172,7 +172,7 @@ module _ (p : Setting) (linked : IsLinkedFile p.linked) (typings : Typings) (w :
       let scopes : length s.scopes ≡ length f.scopes = Each2-length (ScopeHolds p.linked w.heap) s.scopes f.scopes ready.is.scopes in
       let count : length f.locals ≡ r.local_count = sym (Each2-length (IsOfKind p.linked w.heap) s.locals f.locals ready.is.locals) ∙ ready.sized.locals in
       let locals : has_locals row.locals instr (length f.locals) ≡ true = ap (has_locals row.locals instr) count ∙ ready.kept LocalIndex in
-      let below : Each2 (IsOfKind p.linked w.heap) (taken at_here s) (drop (args at_here) f.stack) = Each2-drop (IsOfKind p.linked w.heap) (args at_here) s.stack f.stack ready.is.stack in
+      let below : Each2 (IsOfKind p.linked w.heap) (stack_below at_here s) (drop (args at_here) f.stack) = Each2-drop (IsOfKind p.linked w.heap) (args at_here) s.stack f.stack ready.is.stack in
       and_both _ _ (and_both _ _ (and_both _ _ (and_both _ _ (and_both _ _ (and_both _ _ (and_both _ _ (and_both _ _ (and_both _ _ (and_both _ _
-      (ready.kept PoolIndex) (ready.kept NameForm)) (subst (λ n. nat_le (depth at_here) n ≡ true) stack (ready.kept StackUnder))) (subst (λ n. nat_le (n - depth at_here + length row.gives) r.max_stack ≡ true) stack (and_left _ _ (ready.kept StackOver)))) (subst (λ n. may_pop row.scoping n ≡ true) scopes (ready.kept ScopeUnder))) (subst (λ n. may_push row.scoping n r.scope_size ≡ true) scopes (ready.kept ScopeOver))) locals) (walks_meet row.locals (and_right (all_suit at_here NotIndex (needs at_here) (taken at_here s)) _ (ready.kept NotIndex)) locals)) (scope_meets row.operand (ready.kept ScopeIndex))) (ready.kept NotHere))
-      (all_values_meet (needs at_here) (taken at_here s) (drop (args at_here) f.stack) below suit)
+      (ready.kept PoolIndex) (ready.kept NameForm)) (subst (λ n. nat_le (depth at_here) n ≡ true) stack (ready.kept StackUnder))) (subst (λ n. nat_le (n - depth at_here + length row.gives) r.max_stack ≡ true) stack (and_left _ _ (ready.kept StackOver)))) (subst (λ n. may_pop row.scoping n ≡ true) scopes (ready.kept ScopeUnder))) (subst (λ n. may_push row.scoping n r.scope_size ≡ true) scopes (ready.kept ScopeOver))) locals) (walks_meet row.locals (and_right (all_suit at_here NotIndex (needs at_here) (stack_below at_here s)) _ (ready.kept NotIndex)) locals)) (scope_meets row.operand (ready.kept ScopeIndex))) (ready.kept NotHere))
+      (all_values_meet (needs at_here) (stack_below at_here s) (drop (args at_here) f.stack) below suit)

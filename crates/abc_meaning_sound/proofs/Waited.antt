@@ -6,7 +6,7 @@ use Rattle.abc_heap_values.specs.declared.values.Value.{Value}
 use Rattle.abc_meaning_sound.proofs.Filed.{routine_found}
 use Rattle.abc_heap_store.specs.Heap.{Heap}
 use Rattle.abc_heap_store.specs.declared.records.ScopeEntry.{ScopeEntry}
-use Rattle.abc_meaning.specs.ThrowLaws.{IsVerified}
+use Rattle.abc_meaning.specs.ThrowLaws.{IsVerifiedSetting}
 use Rattle.abc_meaning.specs.Sound.{AreTypings, FrameSound, IsOfKind, ScopeHolds, Typings, WaitSound, WaitingSound}
 use Rattle.abc_objects.specs.Values.{Exists, IsObject}
 use Rattle.abc_meaning_sound.proofs.Sounded.{place_counted}
@@ -61,7 +61,7 @@ there_by p typings h f waits.Not s = absurd s
 
 -- ---- a method's locals hold its receiver
 
-has_this : (p : Setting) (typings : Typings) (n : ℕ) (r : Routine) → IsVerified p → AreTypings p typings → routine_of p n ≡ Some r → 0 < r.local_count
+has_this : (p : Setting) (typings : Typings) (n : ℕ) (r : Routine) → IsVerifiedSetting p → AreTypings p typings → routine_of p n ≡ Some r → 0 < r.local_count
 has_this p typings n r v typed e =
     let t = typed n r e in
     let u = t.start.0 in
@@ -73,7 +73,7 @@ has_this p typings n r v typed e =
 
 -- ---- all together
 
-waiting_is : (p : Setting) (typings : Typings) (h : Heap) (f : Frame) → IsVerified p → AreTypings p typings → WaitingSound p typings h f → IsWaiting p h f
+waiting_is : (p : Setting) (typings : Typings) (h : Heap) (f : Frame) → IsVerifiedSetting p → AreTypings p typings → WaitingSound p typings h f → IsWaiting p h f
 waiting_is p typings h f v typed s =
     let r = s.stands.routine in
     let t = there_by p typings h f f.wait s.waits in
@@ -94,14 +94,14 @@ waiting_is p typings h f v typed s =
       this = omega (arith, this, long);
     }
 
-all_waiting : (p : Setting) (typings : Typings) (h : Heap) (fs : List Frame) → IsVerified p → AreTypings p typings → Each (WaitingSound p typings h) fs → Each (IsWaiting p h) fs
+all_waiting : (p : Setting) (typings : Typings) (h : Heap) (fs : List Frame) → IsVerifiedSetting p → AreTypings p typings → Each (WaitingSound p typings h) fs → Each (IsWaiting p h) fs
 all_waiting p typings h [] v typed e = tt
 all_waiting p typings h (f ∷ fs) v typed e = (waiting_is p typings h f v typed e.0, all_waiting p typings h fs v typed e.1)
 
 pub waiting_frames : WaitingFramesAreThere
 waiting_frames p typings w f fs v typed s = each_at (IsWaiting p w.heap) fs (all_waiting p typings w.heap fs v typed s.frames.1)
 
-pub receiver_there : (p : Setting) (typings : Typings) (h : Heap) (f : Frame) → IsVerified p → AreTypings p typings → FrameSound p typings h f → 0 < length f.locals
+pub receiver_there : (p : Setting) (typings : Typings) (h : Heap) (f : Frame) → IsVerifiedSetting p → AreTypings p typings → FrameSound p typings h f → 0 < length f.locals
 receiver_there p typings h f v typed s =
     let this = has_this p typings f.method s.stands.routine v typed s.stands.body in
     let long = s.stands.locals in

@@ -11,7 +11,7 @@ use Rattle.abc_heap_values.specs.declared.values.Value.{Value}
 use Rattle.abc_heap_values.specs.declared.values.Value.TheVariants.{Undefined, Null, Num, Bool as Truth, Text, Space, Obj}
 use Rattle.abc_base_graphs.specs.Ways.{way}
 use Rattle.abc_heap_store.specs.Heap.{Object, all_cells, cells_of, object_at, obj_id}
-use Rattle.abc_heap_store.specs.Properties.{at_position, element_at, filled, first_filled, next_element, next_filled, the_name, the_value, walked_next}
+use Rattle.abc_heap_store.specs.Properties.{at_position, element_at, present_property, first_filled, next_element, next_filled, the_name, the_value, walked_next}
 use Rattle.abc_heap_store.specs.Texts.{IsText}
 use Rattle.abc_heap_store.specs.What.{is_array}
 use Rattle.abc_objects.specs.Stands.{ObjectStands}
@@ -19,22 +19,22 @@ use Rattle.abc_objects.specs.Values.{Exists}
 use Rattle.abc_objects.proofs.Reshaped.{object_there}
 use Rattle.abc_link_names.specs.declared.types.Kind.TheVariants as kinds
 use Rattle.abc_objects.specs.Objects.{delegate_at}
-use Rattle.abc_verify_typing.specs.Instructions.{local, second}
-use Rattle.abc_verify_typing.specs.Rows.{Shape, makes, on_locals, row_at, table}
+use Rattle.abc_verify_typing.specs.Instructions.{local, second_local}
+use Rattle.abc_verify_typing.specs.Rows.{Shape, makes, on_locals, row_at, table_of_rows}
 use Rattle.abc_verify_typing.specs.declared.row.Locals.TheVariants.{Walks}
 use Rattle.abc_verify_typing.specs.declared.row.Need.TheVariants as needed
 use Rattle.abc_verify_typing.specs.declared.row.RowKind.TheVariants as rows
 use Rattle.abc_verify_typing.specs.declared.row.Source.TheVariants.{Fixed}
-use Rattle.abc_verify_typing.specs.Effects.{fixed}
+use Rattle.abc_verify_typing.specs.Effects.{kind_of_row}
 use Rattle.abc_verify_typing.specs.Lists.{Each}
 use Rattle.abc_verify_typing.specs.Rules.{has_locals}
 use Rattle.abc_verify_typing.specs.declared.rule.VerifyRule.TheVariants.{LocalIndex}
 use Rattle.abc_verify_typing.proofs.Lists.{Each2-length, Each2-set}
 use Rattle.abc_verify_typing.proofs.Member.{and_left, and_right}
 use Rattle.abc_meaning.specs.Setting.{Setting}
-use Rattle.abc_meaning.specs.World.{World, done, object, see, ◌>>=◌}
-use Rattle.abc_meaning.specs.At.{Doing, gives, goes, pushed, two, with_local}
-use Rattle.abc_meaning.specs.Walking.{Position, element_text, first_along, has_next, has_next2, name_in, next_along, next_in, number_or_zero, object_number, or_later, position, position_at, text_or_null, value_in, value_or_undefined, walked, walks_to}
+use Rattle.abc_meaning.specs.World.{World, pure, object_named, see, ◌>>=◌}
+use Rattle.abc_meaning.specs.At.{Doing, gives_pushed, goes, after_pushes, two, frame_with_local}
+use Rattle.abc_meaning.specs.Walking.{Position, element_text, first_along, has_next, has_next2, walked_name, next_along, next_in, number_or_zero, object_number, or_later, position, position_at, text_or_null, value_in, value_or_undefined, object_of, walks_to}
 use Rattle.abc_meaning.specs.Sound.{AreTypings, IsOfKind, Typings, WorldSound}
 use Rattle.abc_meaning.proofs.ValueKinds.{below_object}
 use Rattle.abc_meaning_sound.specs.Given.{FileGiven, OpsGiven}
@@ -52,7 +52,7 @@ found_position : (ps : List (Option (Span × Value))) (k : ℕ) (x : Span × Val
 found_position ps zero x e = absurd cc
 found_position ps (suc k) x e = go (slice_get ps k) refl e
   where
-    go : (o : Option (Option (Span × Value))) → slice_get ps k ≡ o → filled o ≡ Some x → (j : ℕ) × (slice_get ps j ≡ Some (Some x))
+    go : (o : Option (Option (Span × Value))) → slice_get ps k ≡ o → present_property o ≡ Some x → (j : ℕ) × (slice_get ps j ≡ Some (Some x))
     go None is e = absurd cc
     go (Some q) is e = (k, is ∙ ap Some e)
 
@@ -99,19 +99,19 @@ module _ (p : Setting) (file : FileGiven p) (ops : OpsGiven p) (typings : Typing
   position_small w o k r z e = let a = walked_low (object_at w.heap.objects o) k r e in let c = cells_in w.heap.objects o in small w r z (omega (arith, a, c))
 
   -- what is walked over stands
-  pub walked_stands : (w : World) (o : ObjId) (ob : Object) → WorldSound p w → object o w ≡ Some ob → ObjectStands p.linked w.heap o.0 ob
+  pub walked_stands : (w : World) (o : ObjId) (ob : Object) → WorldSound p w → object_named o w ≡ Some ob → ObjectStands p.linked w.heap o.0 ob
   walked_stands w o ob z e = z.stands.objects o.0 ob e
 
   -- ---- hasnext
 
   next_fares : (w : World) (v i : Value) → WorldSound p w → IsOfKind p.linked w.heap kinds.Num (has_next v i w)
-  next_fares w (Obj o) i z = at (object o w) refl
+  next_fares w (Obj o) i z = at (object_named o w) refl
     where
-      number : (ob : Object) → object o w ≡ Some ob → (r : Option ℕ) → walked_next ob (position i) ≡ r → IsOfKind p.linked w.heap kinds.Num (number_or_zero r)
+      number : (ob : Object) → object_named o w ≡ Some ob → (r : Option ℕ) → walked_next ob (position i) ≡ r → IsOfKind p.linked w.heap kinds.Num (number_or_zero r)
       number ob is None e = record { exists = small w 0 z (omega arith); kind = tt }
       number ob is (Some r) e = record { exists = position_small w o.0 (position i) r z (ap (λ x. walked_next x (position i)) (object_there w.heap.objects o.0 ob is) ∙ e); kind = tt }
 
-      at : (x : Option Object) → object o w ≡ x → IsOfKind p.linked w.heap kinds.Num (number_or_zero (next_in x (position i)))
+      at : (x : Option Object) → object_named o w ≡ x → IsOfKind p.linked w.heap kinds.Num (number_or_zero (next_in x (position i)))
       at None is = record { exists = small w 0 z (omega arith); kind = tt }
       at (Some ob) is = number ob is (walked_next ob (position i)) refl
   next_fares w Undefined i z = record { exists = small w 0 z (omega arith); kind = tt }
@@ -121,9 +121,9 @@ module _ (p : Setting) (file : FileGiven p) (ops : OpsGiven p) (typings : Typing
   next_fares w (Text n) i z = record { exists = small w 0 z (omega arith); kind = tt }
   next_fares w (Space n) i z = record { exists = small w 0 z (omega arith); kind = tt }
 
-  hasnext : E (0x1F, gives (λ a. two a λ o i. see (has_next o i)))
-  unfolding row_at table
-  hasnext = entry p typings 0x1F (makes (needed.Index ∷ needed.Value ∷ []) rows.Num) (gives (λ a. two a λ o i. see (has_next o i))) refl (two_give p file ops typings typed 0x1F (makes (needed.Index ∷ needed.Value ∷ []) rows.Num) (Fixed rows.Num) (λ a o i. see (has_next o i)) (record { unslotted_is = refl; scoping = refl; locals = λ h t. refl; leads_is = refl }) refl refl
+  hasnext : E (0x1F, gives_pushed (λ a. two a λ o i. see (has_next o i)))
+  unfolding row_at table_of_rows
+  hasnext = entry p typings 0x1F (makes (needed.Index ∷ needed.Value ∷ []) rows.Num) (gives_pushed (λ a. two a λ o i. see (has_next o i))) refl (two_give p file ops typings typed 0x1F (makes (needed.Index ∷ needed.Value ∷ []) rows.Num) (Fixed rows.Num) (λ a o i. see (has_next o i)) (record { unslotted_is = refl; scoping = refl; locals = λ h t. refl; leads_is = refl }) refl refl
       (λ c k l x y q hx hy. done_fares p c.world _ _ c.ready.world (next_fares c.world x y c.ready.world)))
 
   -- ---- nextname, nextvalue
@@ -134,7 +134,7 @@ module _ (p : Setting) (file : FileGiven p) (ops : OpsGiven p) (typings : Typing
   property_there : (w : World) (ob : Object) (o : ℕ) (k : ℕ) (x : Span × Value) → ObjectStands p.linked w.heap o ob → at_position ob.properties k ≡ Some x → IsText p.linked.file.strings w.heap x.0 × Exists p.linked w.heap x.1
   property_there w ob o k x s e = let f = found_position ob.properties k x e in s.properties f.0 (Some x) f.1
 
-  name_fares : (w : World) (x : Option Object) (o : ℕ) (k : ℕ) → WorldSound p w → ((ob : Object) → x ≡ Some ob → ObjectStands p.linked w.heap o ob) → Fares p w (name_in x k w) IsName
+  name_fares : (w : World) (x : Option Object) (o : ℕ) (k : ℕ) → WorldSound p w → ((ob : Object) → x ≡ Some ob → ObjectStands p.linked w.heap o ob) → Fares p w (walked_name x k w) IsName
   name_fares w None o k z s = done_fares p w Null _ z (record { exists = tt; kind = tt })
   name_fares w (Some ob) o k z s = go (is_array ob.what)
     where
@@ -146,7 +146,7 @@ module _ (p : Setting) (file : FileGiven p) (ops : OpsGiven p) (typings : Typing
       property None is = record { exists = tt; kind = tt }
       property (Some x) is = record { exists = (property_there w ob o k x (s ob refl) is).0; kind = tt }
 
-      go : (b : Bool) → Fares p w ((if b then element_text k (element_at ob.elements k) else done (text_or_null (the_name (at_position ob.properties k)))) w) IsName
+      go : (b : Bool) → Fares p w ((if b then element_text k (element_at ob.elements k) else pure (text_or_null (the_name (at_position ob.properties k)))) w) IsName
       go true = element (element_at ob.elements k)
       go false = done_fares p w _ _ z (property (at_position ob.properties k) refl)
 
@@ -167,13 +167,13 @@ module _ (p : Setting) (file : FileGiven p) (ops : OpsGiven p) (typings : Typing
       go true = element k (element_at ob.elements k) refl
       go false = property (at_position ob.properties k) refl
 
-  nextname : E (0x1E, gives (λ a. two a λ o i. see (walked o) >>= λ ob. name_in ob (position i)))
-  unfolding row_at table
-  nextname = entry p typings 0x1E (makes (needed.Index ∷ needed.Value ∷ []) rows.Text) (gives (λ a. two a λ o i. see (walked o) >>= λ ob. name_in ob (position i))) refl (two_give p file ops typings typed 0x1E (makes (needed.Index ∷ needed.Value ∷ []) rows.Text) (Fixed rows.Text) (λ a o i. see (walked o) >>= λ ob. name_in ob (position i)) (record { unslotted_is = refl; scoping = refl; locals = λ h t. refl; leads_is = refl }) refl refl
+  nextname : E (0x1E, gives_pushed (λ a. two a λ o i. see (object_of o) >>= λ ob. walked_name ob (position i)))
+  unfolding row_at table_of_rows
+  nextname = entry p typings 0x1E (makes (needed.Index ∷ needed.Value ∷ []) rows.Text) (gives_pushed (λ a. two a λ o i. see (object_of o) >>= λ ob. walked_name ob (position i))) refl (two_give p file ops typings typed 0x1E (makes (needed.Index ∷ needed.Value ∷ []) rows.Text) (Fixed rows.Text) (λ a o i. see (object_of o) >>= λ ob. walked_name ob (position i)) (record { unslotted_is = refl; scoping = refl; locals = λ h t. refl; leads_is = refl }) refl refl
       (λ c k l x y q hx hy. over c.world x (position y) c.ready.world))
     where
-      over : (w : World) (v : Value) (k : ℕ) → WorldSound p w → Fares p w (name_in (walked v w) k w) IsName
-      over w (Obj o) k z = name_fares w (object o w) o.0 k z (λ ob e. walked_stands w o ob z e)
+      over : (w : World) (v : Value) (k : ℕ) → WorldSound p w → Fares p w (walked_name (object_of v w) k w) IsName
+      over w (Obj o) k z = name_fares w (object_named o w) o.0 k z (λ ob e. walked_stands w o ob z e)
       over w Undefined k z = name_fares w None 0 k z (λ ob e. absurd cc)
       over w Null k z = name_fares w None 0 k z (λ ob e. absurd cc)
       over w (Num n) k z = name_fares w None 0 k z (λ ob e. absurd cc)
@@ -181,13 +181,13 @@ module _ (p : Setting) (file : FileGiven p) (ops : OpsGiven p) (typings : Typing
       over w (Text n) k z = name_fares w None 0 k z (λ ob e. absurd cc)
       over w (Space n) k z = name_fares w None 0 k z (λ ob e. absurd cc)
 
-  nextvalue : E (0x23, gives (λ a. two a λ o i. see (walked o) >>= λ ob. done (value_in ob (position i))))
-  unfolding row_at table
-  nextvalue = entry p typings 0x23 (makes (needed.Index ∷ needed.Value ∷ []) rows.Any) (gives (λ a. two a λ o i. see (walked o) >>= λ ob. done (value_in ob (position i)))) refl (two_give p file ops typings typed 0x23 (makes (needed.Index ∷ needed.Value ∷ []) rows.Any) (Fixed rows.Any) (λ a o i. see (walked o) >>= λ ob. done (value_in ob (position i))) (record { unslotted_is = refl; scoping = refl; locals = λ h t. refl; leads_is = refl }) refl refl
+  nextvalue : E (0x23, gives_pushed (λ a. two a λ o i. see (object_of o) >>= λ ob. pure (value_in ob (position i))))
+  unfolding row_at table_of_rows
+  nextvalue = entry p typings 0x23 (makes (needed.Index ∷ needed.Value ∷ []) rows.Any) (gives_pushed (λ a. two a λ o i. see (object_of o) >>= λ ob. pure (value_in ob (position i)))) refl (two_give p file ops typings typed 0x23 (makes (needed.Index ∷ needed.Value ∷ []) rows.Any) (Fixed rows.Any) (λ a o i. see (object_of o) >>= λ ob. pure (value_in ob (position i))) (record { unslotted_is = refl; scoping = refl; locals = λ h t. refl; leads_is = refl }) refl refl
       (λ c k l x y q hx hy. done_fares p c.world _ _ c.ready.world (any_kind p.linked c.world.heap _ (over c.world x (position y) c.ready.world))))
     where
-      over : (w : World) (v : Value) (k : ℕ) → WorldSound p w → Exists p.linked w.heap (value_in (walked v w) k)
-      over w (Obj o) k z = value_there w (object o w) o.0 k (λ ob e. walked_stands w o ob z e)
+      over : (w : World) (v : Value) (k : ℕ) → WorldSound p w → Exists p.linked w.heap (value_in (object_of v w) k)
+      over w (Obj o) k z = value_there w (object_named o w) o.0 k (λ ob e. walked_stands w o ob z e)
       over w Undefined k z = tt
       over w Null k z = tt
       over w (Num n) k z = tt
@@ -229,16 +229,16 @@ module _ (p : Setting) (file : FileGiven p) (ops : OpsGiven p) (typings : Typing
   hasnext2 : Sound p file ops typings typed 0x32 (on_locals Walks (makes [] rows.Bool)) has_next2
   hasnext2 = by_case p file ops typings typed 0x32 walk_row has_next2 go
     where
-      move : (c : Case p typings 0x32 walk_row) (b : Bool) (v : Value) (n : ℕ) → IsOfKind p.linked c.world.heap (fixed p.linked rows.Object) v → IsNumber (pos n) → Fares p c.world (goes (pushed (Truth b ∷ []) (with_local (second c.instr) (Num (pos n)) (with_local (local c.instr) v (at_of c).rest))) c.world) (ActSound p typings c.frame)
+      move : (c : Case p typings 0x32 walk_row) (b : Bool) (v : Value) (n : ℕ) → IsOfKind p.linked c.world.heap (kind_of_row p.linked rows.Object) v → IsNumber (pos n) → Fares p c.world (goes (after_pushes (Truth b ∷ []) (frame_with_local (second_local c.instr) (Num (pos n)) (frame_with_local (local c.instr) v (at_of c).rest))) c.world) (ActSound p typings c.frame)
       move c b v n hv hn =
           let w = c.world in
           let f = c.frame in
           let l = leaves_self p w c.ready.world in
-          let first = Each2-set (IsOfKind p.linked w.heap) (local c.instr) c.state.locals f.locals (fixed p.linked rows.Object) v c.ready.is.locals hv in
-          let both = Each2-set (IsOfKind p.linked w.heap) (second c.instr) (set c.state.locals (local c.instr) (fixed p.linked rows.Object)) (set f.locals (local c.instr) v) kinds.Num (Num (pos n)) first (record { exists = hn; kind = tt }) in
+          let first = Each2-set (IsOfKind p.linked w.heap) (local c.instr) c.state.locals f.locals (kind_of_row p.linked rows.Object) v c.ready.is.locals hv in
+          let both = Each2-set (IsOfKind p.linked w.heap) (second_local c.instr) (set c.state.locals (local c.instr) (kind_of_row p.linked rows.Object)) (set f.locals (local c.instr) v) kinds.Num (Num (pos n)) first (record { exists = hn; kind = tt }) in
           done_fares p w _ _ c.ready.world (
             refl,
-            moves_to p file typings typed w f c.routine c.state c.instr walk_row c.ready w l (pushed (Truth b ∷ []) (with_local (second c.instr) (Num (pos n)) (with_local (local c.instr) v (at_of c).rest))) (f.place + 1) (inl refl) (unslotted_left [] (Rattle.abc_verify_typing.specs.Effects.taken (here_of c) c.state) refl) (record { method = refl; home = refl; saved = refl; place = refl; wait = refl })
+            moves_to p file typings typed w f c.routine c.state c.instr walk_row c.ready w l (after_pushes (Truth b ∷ []) (frame_with_local (second_local c.instr) (Num (pos n)) (frame_with_local (local c.instr) v (at_of c).rest))) (f.place + 1) (inl refl) (unslotted_left [] (Rattle.abc_verify_typing.specs.Effects.stack_below (here_of c) c.state) refl) (record { method = refl; home = refl; saved = refl; place = refl; wait = refl })
                 (record { stack = (record { exists = tt; kind = tt }, stack_left p file typings typed w f c.routine c.state c.instr walk_row c.ready w l); scopes = scopes_left p file typings typed w f c.routine c.state c.instr walk_row c.ready w l; locals = both }),
           )
 
@@ -249,16 +249,16 @@ module _ (p : Setting) (file : FileGiven p) (ops : OpsGiven p) (typings : Typing
       go : (c : Case p typings 0x32 walk_row) → Fares p c.world (has_next2 (at_of c) c.world) (ActSound p typings c.frame)
       go c =
           let both : has_locals Walks c.instr c.routine.local_count ≡ true = c.ready.kept LocalIndex in
-          let later = and_right (ltb (local c.instr) c.routine.local_count) (ltb (second c.instr) c.routine.local_count && not (eqb (local c.instr) (second c.instr))) both in
-          let low = ltb-true (second c.instr) c.routine.local_count (and_left _ _ later) in
+          let later = and_right (ltb (local c.instr) c.routine.local_count) (ltb (second_local c.instr) c.routine.local_count && not (eqb (local c.instr) (second_local c.instr))) both in
+          let low = ltb-true (second_local c.instr) c.routine.local_count (and_left _ _ later) in
           let same = Each2-length (IsOfKind p.linked c.world.heap) c.state.locals c.frame.locals c.ready.is.locals in
           let count = c.ready.sized.locals in
           let v = local_there p file ops typings typed 0x32 walk_row c (and_left _ _ both) in
-          let i = local_at p c.world c.state.locals c.frame.locals (second c.instr) c.ready.is.locals (omega (arith, low, same, count)) in
+          let i = local_at p c.world c.state.locals c.frame.locals (second_local c.instr) c.ready.is.locals (omega (arith, low, same, count)) in
           some_then p c.world (slice_get c.frame.locals (local c.instr)) v.0 _ _ v.1
-          (some_then p c.world (slice_get c.frame.locals (second c.instr)) i.0 _ _ i.1
+          (some_then p c.world (slice_get c.frame.locals (second_local c.instr)) i.0 _ _ i.1
           (walks c (next_along (object_number v.0) (position i.0) c.world.heap) (λ e q. next_position c.world (object_number v.0) (position i.0) c.ready.world e q)))
 
-  pub walking_hold : (rest : List (ℕ × Doing)) → Each (EntrySound p typings) rest → Each (EntrySound p typings) ((0x1E, gives (λ a. two a λ o i. see (walked o) >>= λ ob. name_in ob (position i))) ∷ (0x1F, gives (λ a. two a λ o i. see (has_next o i))) ∷ (0x23, gives (λ a. two a λ o i. see (walked o) >>= λ ob. done (value_in ob (position i)))) ∷ (0x32, has_next2) ∷ rest)
-  unfolding row_at table
+  pub walking_hold : (rest : List (ℕ × Doing)) → Each (EntrySound p typings) rest → Each (EntrySound p typings) ((0x1E, gives_pushed (λ a. two a λ o i. see (object_of o) >>= λ ob. walked_name ob (position i))) ∷ (0x1F, gives_pushed (λ a. two a λ o i. see (has_next o i))) ∷ (0x23, gives_pushed (λ a. two a λ o i. see (object_of o) >>= λ ob. pure (value_in ob (position i)))) ∷ (0x32, has_next2) ∷ rest)
+  unfolding row_at table_of_rows
   walking_hold rest more = (nextname, (hasnext, (nextvalue, (entry p typings 0x32 (on_locals Walks (makes [] rows.Bool)) has_next2 refl hasnext2, more))))

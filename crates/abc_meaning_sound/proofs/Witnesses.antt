@@ -10,12 +10,12 @@ use Rattle.abc_base.specs.declared.names.HostClass.{HostClass}
 use Rattle.abc_base.specs.declared.names.HostClass.TheVariants as hosts
 use Rattle.abc_file_types.specs.declared.tables.Abc.{Abc}
 use Rattle.abc_file_types.specs.Files.{Fits, file}
-use Rattle.abc_file_types.specs.Part.{at}
+use Rattle.abc_file_types.specs.Part.{at_of}
 use Rattle.abc_file_types.proofs.Whole.{file-exact}
 use Rattle.abc_link_names.specs.Linked.{LinkedFile}
 use Rattle.abc_link_names.specs.Numbering.{IsNumbering, part_at}
 use Rattle.abc_link_names.specs.Parts.{HasLayout, parent}
-use Rattle.abc_link_names.specs.Places.{place_of}
+use Rattle.abc_link_names.specs.Places.{place_of_part}
 use Rattle.abc_link_names.specs.declared.part.Part.{Part}
 use Rattle.abc_link_names.specs.declared.part.Part.TheVariants as parts
 use Rattle.abc_verify_typing.specs.Lists.{Each}
@@ -26,8 +26,8 @@ use Rattle.abc_verify_typing.specs.declared.state.State.{State}
 use Rattle.abc_verify_typing.proofs.Examples.{pick}
 
 -- a file fits that so many bytes are read as
-pub fits_by : (bytes : List ℕ) (v : Abc) (n : ℕ) → n ≤ 2 ^ 24 → file.reads (at 0 bytes) ≡ Ok (v, at n []) → Fits v
-fits_by bytes v n few is_read = let b = file-exact.found (at 0 bytes) v (at n []) (omega arith) is_read in let place = b.is.place in (b.front, (b.spelled, omega (arith, place, few)))
+pub fits_by : (bytes : List ℕ) (v : Abc) (n : ℕ) → n ≤ 2 ^ 24 → file.reads (at_of 0 bytes) ≡ Ok (v, at_of n []) → Fits v
+fits_by bytes v n few is_read = let b = file-exact.found (at_of 0 bytes) v (at_of n []) (omega arith) is_read in let place = b.is.place in (b.front, (b.spelled, omega (arith, place, few)))
 
 -- ---- layouts: those of the host, and those of the file behind them
 
@@ -96,12 +96,12 @@ module _ (v : Abc) (more : List Part) where
   all_have : Each (HasLayout v) more → Each (HasLayout v) all
   all_have h = (tt, (tt, (tt, (tt, (tt, (tt, (tt, (tt, (tt, (tt, (tt, (tt, (tt, (tt, (tt, (tt, (tt, (tt, (tt, (tt, (tt, (tt, (tt, (tt, (tt, (tt, (tt, (tt, h))))))))))))))))))))))))))))
 
-  module _ (places : map (place_of all) all ≡ range_with_len 0 (length all)) where
-    place_is : (x : ℕ) → x < length all → place_of all (part_at all x) ≡ x
-    place_is x low = let e = sym (get_or-map (place_of all) all x (parts.Host hosts.Object) 0 low) ∙ ap (λ (ns : List ℕ). get_or ns x 0) places ∙ get_or-range_with_len 0 (length all) x 0 low in omega (arith, e)
+  module _ (places : map (place_of_part all) all ≡ range_with_len 0 (length all)) where
+    place_is : (x : ℕ) → x < length all → place_of_part all (part_at all x) ≡ x
+    place_is x low = let e = sym (get_or-map (place_of_part all) all x (parts.Host hosts.Object) 0 low) ∙ ap (λ (ns : List ℕ). get_or ns x 0) places ∙ get_or-range_with_len 0 (length all) x 0 low in omega (arith, e)
 
     apart : (x y : ℕ) → x < y → y < length all → part_at all x ≡ part_at all y → ⊥
-    apart x y less low e = let a = place_is x (omega (arith, less, low)) in let b = place_is y low in let same = ap (place_of all) e in omega (arith, a, b, same, less)
+    apart x y less low e = let a = place_is x (omega (arith, less, low)) in let b = place_is y low in let same = ap (place_of_part all) e in omega (arith, a, b, same, less)
 
     -- the file's own layouts, each behind what it stands under
     pub numbering : ((x : Part) → HasLayout v x → Contains all x) → Each (HasLayout v) more → Behind v (with_host []) more → IsNumbering v all

@@ -190,9 +190,9 @@ ScopeFoundSound p w (results.Start s) = s < length p.linked.file.scripts
 ScopeFoundSound p w results.Missing = Unit {0}
 
 -- the maker of the base, by what makes an instance
-abbrev pub base_of : Setting → Owner → Option Named
-base_of p (owners.Iinit k) = base_named p.linked.file k
-base_of p owner = None
+abbrev pub base_maker : Setting → Owner → Option Named
+base_maker p (owners.Iinit k) = base_named p.linked.file k
+base_maker p owner = None
 
 abbrev pub BaseRuns : Setting → World → ObjId → Option Named → Type 0
 BaseRuns p w o (Some (named.Class b)) = OwnedSound p w (instance_at p.linked.file b).iinit o
@@ -200,7 +200,7 @@ BaseRuns p w o (Some (named.Host c)) = Unit {0}
 BaseRuns p w o other = ⊥
 
 pub record MakersGiven (p : Setting) : Type 0 where
-  pub makers : (w : World) (n : ℕ) (r : Routine) (x : LayoutId) (o : ObjId) → WorldSound p w → routine_of p n ≡ Some r → r.home ≡ MakesInstances x → IsObject w.heap o → IsBelow p.linked (object_at w.heap.objects o.0).layout x.0 → BaseRuns p w o (base_of p (owner_of p.linked.file n))
+  pub makers : (w : World) (n : ℕ) (r : Routine) (x : LayoutId) (o : ObjId) → WorldSound p w → routine_of p n ≡ Some r → r.home ≡ MakesInstances x → IsObject w.heap o → IsBelow p.linked (object_at w.heap.objects o.0).layout x.0 → BaseRuns p w o (base_maker p (owner_of p.linked.file n))
 
 pub record SearchGiven (p : Setting) : Type 0 where
   pub on : (w : World) (v : Value) (name : Name) → WorldSound p w → Exists p.linked w.heap v → FoundSound p w wants.Read (found_on p.linked w.heap v name wants.Read) v

@@ -13,7 +13,7 @@ use Rattle.abc_file_types.specs.declared.code.Instr.{Instr}
 use Rattle.abc_verify_typing.specs.Lists.{Each}
 use Rattle.abc_verify_typing.specs.Routines.{Routine}
 use Rattle.abc_verify_typing.specs.Rules.{keeps}
-use Rattle.abc_verify_typing.specs.Standing.{IsSized, here}
+use Rattle.abc_verify_typing.specs.Standing.{IsWithinSizes, here_with}
 use Rattle.abc_verify_typing.specs.declared.rule.VerifyRule.{VerifyRule}
 use Rattle.abc_verify_typing.specs.declared.state.State.{State}
 use Rattle.abc_meaning.specs.Calling.{Came, Calls, Got, Makes}
@@ -32,7 +32,7 @@ pub record Evolves (old new : Heap) : Type 0 where
   pub classes : (k : ℕ) (o : ObjId) → slice_get old.classes k ≡ Some (Some o) → slice_get new.classes k ≡ Some (Some o)
   pub limits : new.limits ≡ old.limits
 
-pub record Leaves (p : Setting) (w n : World) : Type 0 where
+pub record LeavesSound (p : Setting) (w n : World) : Type 0 where
   pub sound : WorldSound p n
   pub grows : Evolves w.heap n.heap
 
@@ -51,8 +51,8 @@ StopSound p n why = Unit {0}
 
 -- it goes on with what Q says, or stops, and is not stuck
 abbrev pub FaresSo : {X : Type 0} → Setting → World → Outcome X → (World → X → Type 0) → Type 0
-FaresSo p w (Went n x) Q = Leaves p w n × Q n x
-FaresSo p w (Stopped n why) Q = Leaves p w n × StopSound p n why
+FaresSo p w (Went n x) Q = LeavesSound p w n × Q n x
+FaresSo p w (Stopped n why) Q = LeavesSound p w n × StopSound p n why
 
 pub record Fares {X : Type 0} (p : Setting) (w : World) (o : Outcome X) (Q : World → X → Type 0) : Type 0 where
   pub so : FaresSo p w o Q
@@ -79,16 +79,16 @@ pub record Ready (p : Setting) (typings : Typings) (w : World) (f : Frame) (r : 
   pub home : f.home < length p.linked.file.scripts
   pub saved : IsScope w.heap f.saved
   pub idle : f.wait ≡ waits.Not
-  pub sized : IsSized r s
+  pub sized : IsWithinSizes r s
   pub at : slice_get r.code f.place ≡ Some instr
   pub row_is : row_at (opcode instr) ≡ Some row
   pub typed : typings f.method f.place ≡ Some s
   pub is : IsOfState p.linked w.heap s f
-  pub kept : (rule : VerifyRule) → keeps (here p.linked r f.place instr row) s rule ≡ true
+  pub kept : (rule : VerifyRule) → keeps (here_with p.linked r f.place instr row) s rule ≡ true
 
 -- an act that is sound wherever an instruction of the row stands
 abbrev pub DoingSound : Setting → Typings → ℕ → Shape → Doing → Type 0
-DoingSound p typings op row d = (w : World) (f : Frame) (r : Routine) (s : State) (instr : Instr) → Ready p typings w f r s instr row → opcode instr ≡ op → Fares p w (d (at_frame p (here p.linked r f.place instr row) f) w) (ActSound p typings f)
+DoingSound p typings op row d = (w : World) (f : Frame) (r : Routine) (s : State) (instr : Instr) → Ready p typings w f r s instr row → opcode instr ≡ op → Fares p w (d (at_frame p (here_with p.linked r f.place instr row) f) w) (ActSound p typings f)
 
 -- an entry of the table of acts is sound at each row of its opcode
 abbrev pub EntrySound : Setting → Typings → ℕ × Doing → Type 0

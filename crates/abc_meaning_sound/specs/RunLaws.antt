@@ -4,7 +4,7 @@ use Rattle.std.specs.Prelude.{◌≡◌, None}
 use Rattle.abc_heap_store.specs.declared.records.Limits.{Limits}
 use Rattle.abc_meaning_sound.specs.Given.{FileGiven, MakersGiven, ScopesGiven, SearchGiven}
 use Rattle.abc_meaning.specs.Setting.{Setting}
-use Rattle.abc_meaning.specs.ThrowLaws.{AreCounted, IsVerified}
+use Rattle.abc_meaning.specs.ThrowLaws.{AreCounted, IsVerifiedSetting}
 use Rattle.abc_meaning.specs.Meaning.{first_world, too_small}
 
 -- what a search finds in a sound world is there (`SearchGiven`)
@@ -17,4 +17,4 @@ BasesHaveMakers = (p : Setting) → FileGiven p → ScopesGiven p → MakersGive
 
 -- all that is asked can be met together: of a verified file, and of limits within which its run begins
 abbrev pub SomeAreVerified : Type 0
-SomeAreVerified = (p : Setting) × (limits : Limits) × IsVerified p × AreCounted limits × (too_small (first_world p limits).heap ≡ None)
+SomeAreVerified = (p : Setting) × (limits : Limits) × IsVerifiedSetting p × AreCounted limits × (too_small (first_world p limits).heap ≡ None)

@@ -14,8 +14,8 @@ use Rattle.abc_heap_store.specs.Heap.{Heap, Object, obj_id, object_at}
 use Rattle.abc_heap_store.proofs.Growth.{set_read}
 use Rattle.abc_base.specs.declared.names.HostClass.TheVariants as hosts
 use Rattle.abc_heap_store.specs.declared.store.ClassParts.{ClassParts}
-use Rattle.abc_heap_store.specs.Changes.{with_class, with_made, with_scopes, with_slot, with_more_slots, bare}
-use Rattle.abc_heap_store.specs.Scopes.{nodes, top, scope_id}
+use Rattle.abc_heap_store.specs.Changes.{with_class, with_made, with_scopes, with_slot, with_more_slots, bare_object}
+use Rattle.abc_heap_store.specs.Scopes.{nodes, top_of_scopes, scope_id}
 use Rattle.abc_heap_store.proofs.Makes.{change_last, nodes_length}
 use Rattle.abc_link_names.specs.Linked.{LinkedFile, IsLinkedFile, layout_of}
 use Rattle.abc_link_names.specs.Numbering.{part_at}
@@ -139,17 +139,17 @@ over_class l h c saved es s bk bh ex ey db dd sc a free =
     let bx : x < length l.parts = subst (λ n. n < length l.parts) (sym ex) object.0 in
     let by : y < length l.parts = subst (λ n. n < length l.parts) (sym ey) k.0 in
     let h1 = with_made (start_values l x) x c.base_prototype whats.Plain h in
-    let g1 = added_grows h (with_more_slots (start_values l x) (bare x c.base_prototype whats.Plain)) in
+    let g1 = added_grows h (with_more_slots (start_values l x) (bare_object x c.base_prototype whats.Plain)) in
     let s1 : StandsOver l h1 = over_made_object l h x c.base_prototype whats.Plain s bx db tt refl plain (λ i j n m q. absurd cc) in
     let sc1 = scope_grown h h1 saved g1 sc in
     let a1 : AreEntries h1 es = λ i n q. (g1.objects n.object.0 (a i n q)).0 in
     let mid = with_scopes saved es h1 in
     let g2 = scopes_grow h1 saved es in
     let s2 : StandsOver l mid = over_scopes l h1 saved es s1 sc1 a1 in
-    let statics = top (length h.scopes) saved es in
+    let statics = top_of_scopes (length h.scopes) saved es in
     let t2 : IsScope mid statics = top_is h1 saved es sc1 in
     let proto = obj_id (length h.objects) in
-    let one : ℕ → Object = λ j. with_slot 0 (values.Obj proto) (with_more_slots cs (bare y c.delegate (whats.ClassObject c.class c.home statics (scope_id j)))) in
+    let one : ℕ → Object = λ j. with_slot 0 (values.Obj proto) (with_more_slots cs (bare_object y c.delegate (whats.ClassObject c.class c.home statics (scope_id j)))) in
     let node : ℕ → ScopeNode = λ q. record { entry = record { object = obj_id q; with_flag = false }; parent = statics } in
     let ob = one (length mid.scopes) in
     let n = node (length mid.objects) in
@@ -174,6 +174,6 @@ over_class l h c saved es s bk bh ex ey db dd sc a free =
     let bc : c.class < length mid.classes = omega (arith, s.counted, bk) in
     let r : StandsOver l new = over_both l mid ob n c.class c.home statics (scope_id (length mid.scopes)) s2 bc free refl stands scope in
     let made : ℕ → ℕ → Heap = λ q j. record mid { objects = mid.objects ++ one j ∷ []; scopes = mid.scopes ++ node q ∷ []; classes = set h.classes c.class (Some (obj_id q)) } in
-    let last = change_last (with_slot 0 (values.Obj proto)) mid.objects (with_more_slots cs (bare y c.delegate (whats.ClassObject c.class c.home statics (scope_id (length h.scopes + length es))))) (length h.objects + 1) (sym eo) in
+    let last = change_last (with_slot 0 (values.Obj proto)) mid.objects (with_more_slots cs (bare_object y c.delegate (whats.ClassObject c.class c.home statics (scope_id (length h.scopes + length es))))) (length h.objects + 1) (sym eo) in
     let placed : List Object → Heap = λ obs. record mid { objects = obs; scopes = mid.scopes ++ node (length h.objects + 1) ∷ []; classes = set h.classes c.class (Some (obj_id (length h.objects + 1))) } in
     subst (StandsOver l) (ap (λ q. made q (length mid.scopes)) eo ∙ (ap (made (length h.objects + 1)) ei ∙ sym (ap placed last))) r

@@ -18,7 +18,7 @@ use Rattle.abc_file_types.specs.declared.tables.Abc.{Abc}
 use Rattle.abc_file_types.specs.declared.traits.TraitBody.{TraitBody}
 use Rattle.abc_file_types.specs.declared.traits.TraitBody.TheVariants as bodies
 use Rattle.abc_file_types.specs.declared.traits.TraitInfo.{TraitInfo}
-use Rattle.abc_objects.specs.Candidates.{answer}
+use Rattle.abc_objects.specs.Candidates.{answer_of_search}
 use Rattle.abc_objects.specs.ElementNames.{IsLength, IsNumber, element_name}
 use Rattle.abc_objects.specs.Searches.{declared_found, found_in_scopes, found_on}
 use Rattle.abc_objects.specs.declared.found.Found.TheVariants as founds
@@ -94,74 +94,74 @@ fixed start len = record { spaces = spaces.Public; text = record { part = 0; sta
 
 -- a derived trait hides that of the base, behind whose slots its own stands
 derived : declared_found linked heap 3 3 (the (spaces.One 1) 1) Read ≡ founds.Slot 1 false
-unfolding trait slot class file linked thing string heap the fixed declared_found answer way
+unfolding trait slot class file linked thing string heap the fixed declared_found answer_of_search way
 derived = refl
 
 -- a search from the base finds the one of the base
 base : declared_found linked heap 3 2 (the (spaces.One 1) 1) Read ≡ founds.Slot 0 false
-unfolding trait slot class file linked thing string heap the fixed declared_found answer way
+unfolding trait slot class file linked thing string heap the fixed declared_found answer_of_search way
 base = refl
 
 -- another namespace finds none
 private : declared_found linked heap 3 3 (the (spaces.One 3) 1) Read ≡ founds.Missing
-unfolding trait slot class file linked thing string heap the fixed declared_found answer way
+unfolding trait slot class file linked thing string heap the fixed declared_found answer_of_search way
 private = refl
 
 -- any namespace finds one
 any : declared_found linked heap 3 3 (the spaces.Any 1) Read ≡ founds.Slot 1 false
-unfolding trait slot class file linked thing string heap the fixed declared_found answer way
+unfolding trait slot class file linked thing string heap the fixed declared_found answer_of_search way
 any = refl
 
 -- a protected trait of the base is found by the protected namespace of the class under it
 protected : declared_found linked heap 3 3 (the (spaces.One 4) 2) Read ≡ founds.Method (owners.Instance 0) 5
-unfolding trait slot class file linked thing string heap the fixed declared_found answer way
+unfolding trait slot class file linked thing string heap the fixed declared_found answer_of_search way
 protected = refl
 
 -- but not on an object of the base
 unprotected : declared_found linked heap 2 2 (the (spaces.One 4) 2) Read ≡ founds.Missing
-unfolding trait slot class file linked thing string heap the fixed declared_found answer way
+unfolding trait slot class file linked thing string heap the fixed declared_found answer_of_search way
 unprotected = refl
 
 -- it is in a super operation of an object of the class under it
 super_protected : declared_found linked heap 3 2 (the (spaces.One 4) 2) Read ≡ founds.Method (owners.Instance 0) 5
-unfolding trait slot class file linked thing string heap the fixed declared_found answer way
+unfolding trait slot class file linked thing string heap the fixed declared_found answer_of_search way
 super_protected = refl
 
 -- a read finds a getter, which a write passes over
 getter : declared_found linked heap 3 3 (the (spaces.One 1) 5) Read ≡ founds.Getter 6
-unfolding trait slot class file linked thing string heap the fixed declared_found answer way
+unfolding trait slot class file linked thing string heap the fixed declared_found answer_of_search way
 getter = refl
 
 passed_over : declared_found linked heap 3 3 (the (spaces.One 1) 5) Write ≡ founds.WrongSide
-unfolding trait slot class file linked thing string heap the fixed declared_found answer way
+unfolding trait slot class file linked thing string heap the fixed declared_found answer_of_search way
 passed_over = refl
 
 -- ---- on values
 
 -- a property is found by a public name alone
 property : found_on linked heap (values.Obj (obj_id 0)) (the spaces.Public 6) Read ≡ founds.Property (obj_id 0) (values.Num (pos 7))
-unfolding trait slot class file linked thing string heap the fixed found_on answer way
+unfolding trait slot class file linked thing string heap the fixed found_on answer_of_search way
 property = refl
 
 no_property : found_on linked heap (values.Obj (obj_id 0)) (the (spaces.One 3) 6) Read ≡ founds.Missing
-unfolding trait slot class file linked thing string heap the fixed found_on answer way
+unfolding trait slot class file linked thing string heap the fixed found_on answer_of_search way
 no_property = refl
 
 -- an array has elements and a length, and what its delegate has; a number with a leading zero is none of its elements
 element : found_on linked heap (values.Obj (obj_id 1)) (fixed 0 1) Read ≡ founds.Element (obj_id 1) 1
-unfolding trait slot class file linked thing string heap the fixed found_on answer way
+unfolding trait slot class file linked thing string heap the fixed found_on answer_of_search way
 element = refl
 
 no_element : found_on linked heap (values.Obj (obj_id 1)) (fixed 0 2) Read ≡ founds.Missing
-unfolding trait slot class file linked thing string heap the fixed found_on answer way
+unfolding trait slot class file linked thing string heap the fixed found_on answer_of_search way
 no_element = refl
 
 length_found : found_on linked heap (values.Obj (obj_id 1)) (fixed 2 6) Read ≡ founds.Length (obj_id 1)
-unfolding trait slot class file linked thing string heap the fixed found_on answer way
+unfolding trait slot class file linked thing string heap the fixed found_on answer_of_search way
 length_found = refl
 
 delegate : found_on linked heap (values.Obj (obj_id 1)) (the spaces.Public 6) Read ≡ founds.Property (obj_id 0) (values.Num (pos 7))
-unfolding trait slot class file linked thing string heap the fixed found_on answer way
+unfolding trait slot class file linked thing string heap the fixed found_on answer_of_search way
 delegate = refl
 
 -- ---- in scopes
@@ -214,16 +214,16 @@ world = record heap {
 
 -- a truth value has what the prototype of its class has; a class without a prototype has none to give
 of_boolean : found_on linked world (values.Bool true) (the spaces.Public 6) Read ≡ founds.Property (obj_id 0) (values.Num (pos 7))
-unfolding trait slot class file linked thing string heap the scope world found_on answer way
+unfolding trait slot class file linked thing string heap the scope world found_on answer_of_search way
 of_boolean = refl
 
 of_number : found_on linked world (values.Num (pos 1)) (the spaces.Public 6) Read ≡ founds.Missing
-unfolding trait slot class file linked thing string heap the scope world found_on answer way
+unfolding trait slot class file linked thing string heap the scope world found_on answer_of_search way
 of_number = refl
 
 -- every class object has the public constant slot `prototype`
 class_object : declared_found linked world 1 1 (fixed 0 9) Read ≡ founds.Slot 0 true
-unfolding trait slot class file linked thing string heap the fixed scope world declared_found answer way
+unfolding trait slot class file linked thing string heap the fixed scope world declared_found answer_of_search way
 class_object = refl
 
 -- the delegates of a global object in a scope are searched, by public names

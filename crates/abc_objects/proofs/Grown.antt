@@ -12,23 +12,23 @@ use Rattle.abc_heap_store.specs.declared.records.ScopeNode.{ScopeNode}
 use Rattle.abc_heap_store.specs.declared.records.What.{What}
 use Rattle.abc_heap_store.specs.declared.records.What.TheVariants as whats
 use Rattle.abc_heap_store.specs.Heap.{Heap, Object, object_at}
-use Rattle.abc_heap_store.specs.Texts.{IsText, part_of}
+use Rattle.abc_heap_store.specs.Texts.{IsText, part_of_text}
 use Rattle.abc_link_names.specs.Linked.{LinkedFile}
 use Rattle.abc_link_names.specs.Tree.{IsBelow}
 use Rattle.abc_link_names.specs.declared.types.Kind.{Kind}
 use Rattle.abc_link_names.specs.declared.types.Kind.TheVariants as kinds
-use Rattle.abc_objects.specs.Values.{Exists, Holds}
-use Rattle.abc_objects.specs.Growing.{Grows, Keeps}
+use Rattle.abc_objects.specs.Values.{Exists, IsValueOf}
+use Rattle.abc_objects.specs.Growing.{Grows, ObjectKeeps}
 use Rattle.abc_objects.specs.Opening.{opening_objects, opening_scopes}
 use Rattle.abc_objects.specs.Stands.{HasOpening, IsScope, IsObjectOrNone, NamesParts, IsProperty, ObjectStands, ScopeStands}
 
-pub keeps_self : (ob : Object) → Keeps ob ob
+pub keeps_self : (ob : Object) → ObjectKeeps ob ob
 keeps_self ob = record { layout = refl; delegate = refl; what = refl }
 
-pub keeps_same : (a b : Object) → b ≡ a → Keeps a b
+pub keeps_same : (a b : Object) → b ≡ a → ObjectKeeps a b
 keeps_same a b e = record { layout = ap (λ (z : Object). z.layout) e; delegate = ap (λ (z : Object). z.delegate) e; what = ap (λ (z : Object). z.what) e }
 
-pub keeps_on : (a b c : Object) → Keeps a b → Keeps b c → Keeps a c
+pub keeps_on : (a b c : Object) → ObjectKeeps a b → ObjectKeeps b c → ObjectKeeps a c
 keeps_on a b c p q = record { layout = q.layout ∙ p.layout; delegate = q.delegate ∙ p.delegate; what = q.what ∙ p.what }
 
 pub grows_self : (h : Heap) → Grows h h
@@ -61,7 +61,7 @@ opening_grown l a b g e = record {
 }
 
 -- a text
-part_grown : (l : LinkedFile) (a b : Heap) (p : ℕ) → Grows a b → length (part_of a.fixed a.made l.file.strings p) ≤ length (part_of b.fixed b.made l.file.strings p)
+part_grown : (l : LinkedFile) (a b : Heap) (p : ℕ) → Grows a b → length (part_of_text a.fixed a.made l.file.strings p) ≤ length (part_of_text b.fixed b.made l.file.strings p)
 part_grown l a b zero g = omega (arith, ap length g.fixed)
 part_grown l a b (suc zero) g = omega (arith, ap length g.made.1, length-append a.made g.made.0)
 part_grown l a b (suc (suc i)) g = omega arith
@@ -80,7 +80,7 @@ exists_grown l a b (values.Space n) g e = e
 exists_grown l a b (values.Obj o) g e = (g.objects o.0 e).0
 
 -- a value of a kind
-pub holds_grown : (l : LinkedFile) (a b : Heap) (k : Kind) (v : Value) → Grows a b → Holds l a k v → Holds l b k v
+pub holds_grown : (l : LinkedFile) (a b : Heap) (k : Kind) (v : Value) → Grows a b → IsValueOf l a k v → IsValueOf l b k v
 holds_grown l a b kinds.Any v g e = tt
 holds_grown l a b (kinds.Obj x) (values.Obj o) g e = let r = g.objects o.0 e.0 in (r.0, subst (λ n. IsBelow l n x.0) (sym r.1.layout) e.1)
 holds_grown l a b kinds.Undef values.Undefined g e = tt

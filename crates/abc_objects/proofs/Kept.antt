@@ -7,13 +7,13 @@ use Rattle.abc_heap_store.specs.declared.records.ScopeId.{ScopeId}
 use Rattle.abc_heap_store.specs.declared.records.ScopeNode.{ScopeNode}
 use Rattle.abc_heap_store.specs.declared.records.ScopeEntry.{ScopeEntry}
 use Rattle.abc_heap_store.specs.declared.records.What.TheVariants as whats
-use Rattle.abc_heap_store.specs.Heap.{Heap, Object, object_at, slots_of}
+use Rattle.abc_heap_store.specs.Heap.{Heap, Object, object_at, slots_of_object}
 use Rattle.abc_heap_store.specs.Changes.{change, with_object, with_scopes}
-use Rattle.abc_heap_store.specs.Scopes.{nodes, top, scope_id}
+use Rattle.abc_heap_store.specs.Scopes.{nodes, top_of_scopes, scope_id}
 use Rattle.abc_heap_store.proofs.Arrays.{length_change}
 use Rattle.abc_heap_store.proofs.Makes.{nodes_length}
 use Rattle.abc_link_names.specs.Linked.{LinkedFile}
-use Rattle.abc_objects.specs.Growing.{Grows, Keeps}
+use Rattle.abc_objects.specs.Growing.{Grows, ObjectKeeps}
 use Rattle.abc_objects.specs.Stands.{StandsOver, ObjectStands, ScopeStands, IsScope, IsBeneath, AreEntries, host_class_number}
 use Rattle.abc_objects.proofs.Grown.{keeps_self, keeps_same, object_grown, opening_grown, scope_stands_grown}
 
@@ -35,21 +35,21 @@ now_object f zero (ob ∷ obs) (suc i) x w e = (x, e, refl)
 now_object f (suc o) (ob ∷ obs) zero x w e = (x, e, refl)
 now_object f (suc o) (ob ∷ obs) (suc i) x w e = now_object f o obs i x w e
 
-kept_at : (f : Object → Object) (o : ℕ) (obs : List Object) (i : ℕ) → ((ob : Object) → Keeps ob (f ob)) → Keeps (object_at obs i) (object_at (change f o obs) i)
+kept_at : (f : Object → Object) (o : ℕ) (obs : List Object) (i : ℕ) → ((ob : Object) → ObjectKeeps ob (f ob)) → ObjectKeeps (object_at obs i) (object_at (change f o obs) i)
 kept_at f o [] i w = keeps_self (object_at [] i)
 kept_at f zero (ob ∷ obs) zero w = w ob
 kept_at f zero (ob ∷ obs) (suc i) w = keeps_self (object_at obs i)
 kept_at f (suc o) (ob ∷ obs) zero w = keeps_self ob
 kept_at f (suc o) (ob ∷ obs) (suc i) w = kept_at f o obs i w
 
-slots_kept : (f : Object → Object) (o : ℕ) (obs : List Object) (i : ℕ) → ((ob : Object) → length (f ob).slots ≡ length ob.slots) → length (slots_of (change f o obs) i) ≡ length (slots_of obs i)
+slots_kept : (f : Object → Object) (o : ℕ) (obs : List Object) (i : ℕ) → ((ob : Object) → length (f ob).slots ≡ length ob.slots) → length (slots_of_object (change f o obs) i) ≡ length (slots_of_object obs i)
 slots_kept f o [] i w = refl
 slots_kept f zero (ob ∷ obs) zero w = w ob
 slots_kept f zero (ob ∷ obs) (suc i) w = refl
 slots_kept f (suc o) (ob ∷ obs) zero w = refl
 slots_kept f (suc o) (ob ∷ obs) (suc i) w = slots_kept f o obs i w
 
-pub changed_grows : (h : Heap) (f : Object → Object) (o : ℕ) → ((ob : Object) → Keeps ob (f ob)) → Grows h (with_object f o h)
+pub changed_grows : (h : Heap) (f : Object → Object) (o : ℕ) → ((ob : Object) → ObjectKeeps ob (f ob)) → Grows h (with_object f o h)
 changed_grows h f o w = record {
   objects = λ i b. (omega (arith, b, length_change f o h.objects), kept_at f o h.objects i w);
   scopes = ([], sym (append-nil h.scopes));
@@ -60,7 +60,7 @@ changed_grows h f o w = record {
 
 -- a change that leaves what an object is, and after which it stands as before
 pub record Reshapes (l : LinkedFile) (h : Heap) (o : ℕ) (f : Object → Object) : Type 0 where
-  pub keeps : (ob : Object) → Keeps ob (f ob)
+  pub keeps : (ob : Object) → ObjectKeeps ob (f ob)
   pub slots : (ob : Object) → length (f ob).slots ≡ length ob.slots
   pub stands : (ob : Object) → slice_get h.objects o ≡ Some ob → ObjectStands l h o ob → ObjectStands l h o (f ob)
 
@@ -107,7 +107,7 @@ object_left (x ∷ obs) more zero b = refl
 object_left (x ∷ obs) more (suc i) b = object_left obs more i (omega arith)
 object_left [] more i b = absurd (omega arith)
 
-pub slots_there : (obs : List Object) (o : ℕ) → 0 < length (slots_of obs o) → o < length obs
+pub slots_there : (obs : List Object) (o : ℕ) → 0 < length (slots_of_object obs o) → o < length obs
 slots_there (x ∷ obs) zero b = omega arith
 slots_there (x ∷ obs) (suc o) b = let r = slots_there obs o b in omega arith
 slots_there [] o b = absurd (omega arith)
@@ -154,7 +154,7 @@ over_same l h new s g p q r same = record {
   linked = s.linked;
   starts = s.starts;
   opening = opening_grown l h new g s.opening;
-  hosts = λ c. omega (arith, s.hosts c, ap (λ obs. length (slots_of obs (host_class_number c))) p);
+  hosts = λ c. omega (arith, s.hosts c, ap (λ obs. length (slots_of_object obs (host_class_number c))) p);
   strings = same ∙ s.strings;
   fixed = (s.fixed.0, g.fixed ∙ s.fixed.1);
   objects = λ i ob e. object_grown l h new i ob g (s.objects i ob (ap (λ obs. slice_get obs i) (sym p) ∙ e));
@@ -238,7 +238,7 @@ over_scopes l h saved es s sc a =
     }
 
 -- the top of captured scopes is one
-top_within : (at : ℕ) (below : Option ScopeId) (es : List ScopeEntry) (n : ℕ) → at + length es ≤ n → IsBeneath at below → IsBeneath n (top at below es)
+top_within : (at : ℕ) (below : Option ScopeId) (es : List ScopeEntry) (n : ℕ) → at + length es ≤ n → IsBeneath at below → IsBeneath n (top_of_scopes at below es)
 top_within at None [] n b w = tt
 top_within at (Some s) [] n b w = omega (arith, w)
 top_within at below (e ∷ es) n b w = let low : at < at + 1 = omega arith in top_within (at + 1) (Some (scope_id at)) es n (omega arith) low
@@ -247,7 +247,7 @@ scope_is : (h : Heap) (s : Option ScopeId) → IsBeneath (length h.scopes) s →
 scope_is h None b = tt
 scope_is h (Some s) b = b
 
-pub top_is : (h : Heap) (saved : Option ScopeId) (es : List ScopeEntry) → IsScope h saved → IsScope (with_scopes saved es h) (top (length h.scopes) saved es)
+pub top_is : (h : Heap) (saved : Option ScopeId) (es : List ScopeEntry) → IsScope h saved → IsScope (with_scopes saved es h) (top_of_scopes (length h.scopes) saved es)
 top_is h saved es s =
-    scope_is (with_scopes saved es h) (top (length h.scopes) saved es)
+    scope_is (with_scopes saved es h) (top_of_scopes (length h.scopes) saved es)
     (top_within (length h.scopes) saved es (length (h.scopes ++ nodes (length h.scopes) saved es)) (omega (arith, length-append h.scopes (nodes (length h.scopes) saved es), nodes_length (length h.scopes) saved es)) (beneath h saved s))

@@ -11,7 +11,7 @@ use Rattle.abc_base.proofs.Writing.{front_first, front_second, known_twice}
 use Rattle.abc_base.specs.Sinks.{GrowsByFront}
 use Rattle.abc_heap_values.specs.declared.values.Value.{Value}
 use Rattle.abc_heap_store.specs.Heap.{Heap}
-use Rattle.abc_objects.specs.Lines.{AreThere, IsThere, behind, bytes_of, line}
+use Rattle.abc_objects.specs.Lines.{AreThere, AreTextsThere, behind, bytes_of_value, texts_line}
 
 -- one piece was written, and then another
 pub both_written : {T E : Type 0} → (old mid new : Option (List ℕ)) (a b : List ℕ) (r : Result T E) → mid ≡ append_known old a → MatchResult r (λ x. new ≡ append_known mid b) (λ x. GrowsByFront mid new b) → MatchResult r (λ x. new ≡ append_known old (a ++ b)) (λ x. GrowsByFront old new (a ++ b))
@@ -19,13 +19,13 @@ both_written old mid new a b (Ok x) is e = e ∙ ap (λ m. append_known m b) is 
 both_written old mid new a b (Err x) is g = front_second old new a b (subst (λ (m : Option (List ℕ)). GrowsByFront m new b) is g)
 
 -- a line is its first text, the others behind spaces, and a line feed
-pub line_parts : (strings : List (List ℕ)) (h : Heap) (t : Value) (ts : List Value) → bytes_of strings h t ++ flat_map (behind strings h) ts ++ 10 ∷ [] ≡ line strings h (t ∷ ts)
-line_parts strings h t [] = append_assoc (bytes_of strings h t) [] (10 ∷ [])
+pub line_parts : (strings : List (List ℕ)) (h : Heap) (t : Value) (ts : List Value) → bytes_of_value strings h t ++ flat_map (behind strings h) ts ++ 10 ∷ [] ≡ texts_line strings h (t ∷ ts)
+line_parts strings h t [] = append_assoc (bytes_of_value strings h t) [] (10 ∷ [])
 line_parts strings h t (u ∷ us) =
-    append_assoc (bytes_of strings h t) (behind strings h u ++ flat_map (behind strings h) us) (10 ∷ [])
-    ∙ ap (λ bs. bytes_of strings h t ++ (32 ∷ bs)) (line_parts strings h u us)
+    append_assoc (bytes_of_value strings h t) (behind strings h u ++ flat_map (behind strings h) us) (10 ∷ [])
+    ∙ ap (λ bs. bytes_of_value strings h t ++ (32 ∷ bs)) (line_parts strings h u us)
 
-pub there_at : (strings : List (List ℕ)) (h : Heap) (xs : List Value) (i : ℕ) (d : Value) → AreThere strings h xs → i < length xs → IsThere strings h (slice_index_or xs i d)
+pub there_at : (strings : List (List ℕ)) (h : Heap) (xs : List Value) (i : ℕ) (d : Value) → AreThere strings h xs → i < length xs → AreTextsThere strings h (slice_index_or xs i d)
 there_at strings h [] i d a b = absurd (omega arith)
 there_at strings h (y ∷ ys) zero d a b = a.0
 there_at strings h (y ∷ ys) (suc i) d a b = there_at strings h ys i d a.1 (omega arith)

@@ -9,15 +9,15 @@ use Rattle.abc_heap_values.specs.declared.values.Value.TheVariants as values
 use Rattle.abc_heap_store.specs.declared.records.ScopeId.{ScopeId}
 use Rattle.abc_heap_store.specs.declared.records.What.{What}
 use Rattle.abc_heap_store.specs.declared.records.What.TheVariants as whats
-use Rattle.abc_heap_store.specs.Heap.{Heap, Object, slots_of as slots_of_object}
+use Rattle.abc_heap_store.specs.Heap.{Heap, Object, slots_of_object}
 use Rattle.abc_heap_store.specs.What.{is_array}
 use Rattle.abc_heap_store.proofs.Bytes.{past_pool}
-use Rattle.abc_heap_store.specs.Changes.{with_made, with_array, with_scopes, with_more_slots, with_more_elements, bare}
-use Rattle.abc_heap_store.specs.Scopes.{top}
+use Rattle.abc_heap_store.specs.Changes.{with_made, with_array, with_scopes, with_more_slots, with_more_elements, bare_object}
+use Rattle.abc_heap_store.specs.Scopes.{top_of_scopes}
 use Rattle.abc_heap_store.specs.declared.records.ScopeEntry.{ScopeEntry}
 use Rattle.abc_base.specs.declared.names.HostClass.{HostClass}
 use Rattle.abc_base.specs.declared.names.HostClass.TheVariants as hosts
-use Rattle.abc_link_names.specs.Linked.{LinkedFile, IsLinkedFile, base, layout_of}
+use Rattle.abc_link_names.specs.Linked.{LinkedFile, IsLinkedFile, base_layout, layout_of}
 use Rattle.abc_link_names.specs.Parts.{HasLayout, parent}
 use Rattle.abc_link_names.specs.Places.{place_under}
 use Rattle.abc_base_graphs.specs.Heirs.{heritage}
@@ -31,9 +31,9 @@ use Rattle.abc_link_names.specs.declared.types.SlotInfo.{SlotInfo}
 use Rattle.abc_link_names.specs.declared.start.Start.{Start}
 use Rattle.abc_link_names.specs.declared.start.Start.TheVariants as starts
 use Rattle.abc_objects.specs.Fixed.{fixed_bytes}
-use Rattle.abc_objects.specs.Starts.{start_value, start_values, StartExists, StartsExist, StartsIn, CanStart}
+use Rattle.abc_objects.specs.Starts.{start_value, start_values, StartExists, StartsExist, StartsIn, CanStartSlots}
 use Rattle.abc_objects.specs.Values.{Exists}
-use Rattle.abc_objects.specs.Stands.{StandsOver, ObjectStands, NamesParts, IsOlder, IsObjectOrNone, IsScope, IsMadeAlone, AreEntries, Each, array_layout, host_layout, object_in, prototype_of}
+use Rattle.abc_objects.specs.Stands.{StandsOver, ObjectStands, NamesParts, IsOlder, IsObjectOrNone, IsScope, IsMadeAlone, AreEntries, EachAt, array_layout, host_layout, object_if_any, prototype_of}
 use Rattle.abc_objects.proofs.Grown.{bound_grown}
 use Rattle.abc_objects.proofs.Kept.{over_added, over_scopes, scopes_grow, top_is}
 
@@ -70,7 +70,7 @@ older h None e = tt
 older h (Some d) e = e
 
 -- an object with the slots of a layout, at their start values
-pub bare_stands : (l : LinkedFile) (h : Heap) (o x : ℕ) (delegate : Option ObjId) (what : What) → 62 ≤ length h.fixed → StartsExist l → x < length l.parts → IsOlder o delegate → NamesParts l h what → is_array what ≡ false → x ≢ array_layout l → ObjectStands l h o (with_more_slots (start_values l x) (bare x delegate what))
+pub bare_stands : (l : LinkedFile) (h : Heap) (o x : ℕ) (delegate : Option ObjId) (what : What) → 62 ≤ length h.fixed → StartsExist l → x < length l.parts → IsOlder o delegate → NamesParts l h what → is_array what ≡ false → x ≢ array_layout l → ObjectStands l h o (with_more_slots (start_values l x) (bare_object x delegate what))
 bare_stands l h o x delegate what f e b d n plain ne = record {
   layout = b;
   slots = length-map (slots_of l x) (λ (i : SlotInfo). start_value l.file.strings i.start);
@@ -87,12 +87,12 @@ bare_stands l h o x delegate what f e b d n plain ne = record {
 -- what an object may be that is made by itself
 pub over_made_object : (l : LinkedFile) (h : Heap) (x : ℕ) (delegate : Option ObjId) (what : What) → StandsOver l h → x < length l.parts → IsObjectOrNone h delegate → NamesParts l h what → is_array what ≡ false → x ≢ array_layout l → ((k s : ℕ) (c : Option ScopeId) (i : ScopeId) → what ≡ whats.ClassObject k s c i → ⊥) → StandsOver l (with_made (start_values l x) x delegate what h)
 over_made_object l h x delegate what s b d n plain ne not_class =
-    over_added l h (with_more_slots (start_values l x) (bare x delegate what)) s (bare_stands l h (length h.objects) x delegate what (fixed_long l h s) s.starts b (older h delegate d) n plain ne) not_class
+    over_added l h (with_more_slots (start_values l x) (bare_object x delegate what)) s (bare_stands l h (length h.objects) x delegate what (fixed_long l h s) s.starts b (older h delegate d) n plain ne) not_class
 
-pub can_start : (l : LinkedFile) (x : ℕ) (pool : List (List ℕ)) (slots : List SlotInfo) → pool ≡ l.file.strings → slots ≡ slots_of l x → StartsIn l (slots_of l x) → CanStart pool slots
+pub can_start : (l : LinkedFile) (x : ℕ) (pool : List (List ℕ)) (slots : List SlotInfo) → pool ≡ l.file.strings → slots ≡ slots_of l x → StartsIn l (slots_of l x) → CanStartSlots pool slots
 can_start l x pool slots p q e =
-    let own : CanStart l.file.strings (slots_of l x) = record { few = e.few; short = λ k s w i r. subst (λ (y : Start). StartExists l y) r (e.each k s w) } in
-    subst (λ (t : List (List ℕ)). CanStart t slots) (sym p) (subst (CanStart l.file.strings) (sym q) own)
+    let own : CanStartSlots l.file.strings (slots_of l x) = record { few = e.few; short = λ k s w i r. subst (λ (y : Start). StartExists l y) r (e.each k s w) } in
+    subst (λ (t : List (List ℕ)). CanStartSlots t slots) (sym p) (subst (CanStartSlots l.file.strings) (sym q) own)
 
 -- past the end of the pool
 pub past_pool_text : (pool : List (List ℕ)) (i : ℕ) → slice_get pool i ≡ None → get_or pool i [] ≡ []
@@ -119,11 +119,11 @@ function_layout l t =
     )
 
 -- a function, above the scopes that it keeps
-pub over_function : (l : LinkedFile) (h : Heap) (m s : ℕ) (delegate : Option ObjId) (saved : Option ScopeId) (es : List ScopeEntry) → StandsOver l h → m < length l.file.methods → s < length l.file.scripts → IsObjectOrNone h delegate → IsScope h saved → AreEntries h es → StandsOver l (with_made (start_values l (host_layout l hosts.Function)) (host_layout l hosts.Function) delegate (whats.Closure m s (top (length h.scopes) saved es) None) (with_scopes saved es h))
+pub over_function : (l : LinkedFile) (h : Heap) (m s : ℕ) (delegate : Option ObjId) (saved : Option ScopeId) (es : List ScopeEntry) → StandsOver l h → m < length l.file.methods → s < length l.file.scripts → IsObjectOrNone h delegate → IsScope h saved → AreEntries h es → StandsOver l (with_made (start_values l (host_layout l hosts.Function)) (host_layout l hosts.Function) delegate (whats.Closure m s (top_of_scopes (length h.scopes) saved es) None) (with_scopes saved es h))
 over_function l h m s delegate saved es over bm bs d sc a =
     let mid = with_scopes saved es h in
     let f = function_layout l over.linked in
-    over_made_object l mid (host_layout l hosts.Function) delegate (whats.Closure m s (top (length h.scopes) saved es) None)
+    over_made_object l mid (host_layout l hosts.Function) delegate (whats.Closure m s (top_of_scopes (length h.scopes) saved es) None)
     (over_scopes l h saved es over sc a) f.0 (bound_grown h mid delegate (scopes_grow h saved es) d) (bm, bs, top_is h saved es sc, tt) refl f.1 (λ k n c i q. absurd cc)
 
 -- an object that is made by itself is no array and no class object
@@ -145,8 +145,8 @@ pub slots_are : (l : LinkedFile) → IsLinkedFile l → (x : ℕ) (p q : Part) �
 slots_are l t x p q e up =
     let own = λ (y : ℕ). own_slots l (part_at l.parts y) in
     let f = falling l.file l.parts t.numbering in
-    let above : base l x ≡ Some (layout_of l q).0 = ap (λ r. place_under l.parts (parent l.file r)) e ∙ ap (place_under l.parts) up in
-    heritage_some (base l) own f x ∙ (ap (λ n. heritage (base l) own n ++ own x) above ∙ ap (λ r. heritage (base l) own (Some (layout_of l q).0) ++ own_slots l r) e)
+    let above : base_layout l x ≡ Some (layout_of l q).0 = ap (λ r. place_under l.parts (parent l.file r)) e ∙ ap (place_under l.parts) up in
+    heritage_some (base_layout l) own f x ∙ (ap (λ n. heritage (base_layout l) own n ++ own x) above ∙ ap (λ r. heritage (base_layout l) own (Some (layout_of l q).0) ++ own_slots l r) e)
 
 -- plain objects have no slots
 pub object_slots : (l : LinkedFile) → IsLinkedFile l → slots_of l (host_layout l hosts.Object) ≡ []
@@ -154,18 +154,18 @@ object_slots l t =
     let o = host_found l t hosts.Object in
     let own = λ (y : ℕ). own_slots l (part_at l.parts y) in
     let f = falling l.file l.parts t.numbering in
-    let top_of : base l (host_layout l hosts.Object) ≡ None = ap (λ p. place_under l.parts (parent l.file p)) o.1 in
+    let top_of : base_layout l (host_layout l hosts.Object) ≡ None = ap (λ p. place_under l.parts (parent l.file p)) o.1 in
     let none : own (host_layout l hosts.Object) ≡ [] = ap (own_slots l) o.1 in
-    heritage_some (base l) own f (host_layout l hosts.Object) ∙ (ap (λ n. heritage (base l) own n ++ own (host_layout l hosts.Object)) top_of ∙ (ap (λ xs. heritage (base l) own None ++ xs) none ∙ ap (λ xs. xs ++ []) (heritage_none (base l) own)))
+    heritage_some (base_layout l) own f (host_layout l hosts.Object) ∙ (ap (λ n. heritage (base_layout l) own n ++ own (host_layout l hosts.Object)) top_of ∙ (ap (λ xs. heritage (base_layout l) own None ++ xs) none ∙ ap (λ xs. xs ++ []) (heritage_none (base_layout l) own)))
 
 -- nor have instances of a class of the host without own slots that stands under Object
 pub no_slots : (l : LinkedFile) → IsLinkedFile l → (c : HostClass) → own_slots l (parts.Host c) ≡ [] → parent l.file (parts.Host c) ≡ Some (parts.Host hosts.Object) → slots_of l (host_layout l c) ≡ []
 no_slots l t c none up =
     slots_are l t (host_layout l c) (parts.Host c) (parts.Host hosts.Object) (host_found l t c).1 up ∙ (ap (λ xs. slots_of l (host_layout l hosts.Object) ++ xs) none ∙ ap (λ xs. xs ++ []) (object_slots l t))
 
-pub over_array : (l : LinkedFile) (h : Heap) (es : List Value) (delegate : Option ObjId) → StandsOver l h → IsObjectOrNone h delegate → Each (Exists l h) es → StandsOver l (with_array es (array_layout l) delegate h)
+pub over_array : (l : LinkedFile) (h : Heap) (es : List Value) (delegate : Option ObjId) → StandsOver l h → IsObjectOrNone h delegate → EachAt (Exists l h) es → StandsOver l (with_array es (array_layout l) delegate h)
 over_array l h es delegate s d e =
-    over_added l h (with_more_elements es (bare (array_layout l) delegate whats.Array)) s (record {
+    over_added l h (with_more_elements es (bare_object (array_layout l) delegate whats.Array)) s (record {
       layout = (host_found l s.linked hosts.Array).0;
       slots = sym (ap length (no_slots l s.linked hosts.Array refl refl));
       delegate = older h delegate d;
@@ -179,7 +179,7 @@ over_array l h es delegate s d e =
     }) (λ k n c i q. absurd cc)
 
 -- undefined elements exist
-pub undefined_exist : (l : LinkedFile) (h : Heap) (n : ℕ) → Each (Exists l h) (replicate n values.Undefined)
+pub undefined_exist : (l : LinkedFile) (h : Heap) (n : ℕ) → EachAt (Exists l h) (replicate n values.Undefined)
 undefined_exist l h zero k v q = absurd cc
 undefined_exist l h (suc n) zero v q = let w : values.Undefined ≡ v = cc in subst (Exists l h) w tt
 undefined_exist l h (suc n) (suc k) v q = undefined_exist l h n k v q
@@ -193,7 +193,7 @@ value_there (ob ∷ obs) (suc o) k v e = value_there obs o k v e
 pub prototype_is : (l : LinkedFile) (h : Heap) (o : ℕ) → StandsOver l h → IsObjectOrNone h (prototype_of h o)
 prototype_is l h o s = go (slice_get (slots_of_object h.objects o) 0) refl
   where
-    go : (v : Option Value) → slice_get (slots_of_object h.objects o) 0 ≡ v → IsObjectOrNone h (object_in v)
+    go : (v : Option Value) → slice_get (slots_of_object h.objects o) 0 ≡ v → IsObjectOrNone h (object_if_any v)
     go None q = tt
     go (Some values.Undefined) q = tt
     go (Some values.Null) q = tt

@@ -7,12 +7,12 @@ use Rattle.abc_base.specs.declared.names.HostClass.TheVariants as hosts
 use Rattle.abc_heap_values.specs.declared.values.Span.{Span}
 use Rattle.abc_heap_values.specs.declared.values.Value.{Value}
 use Rattle.abc_heap_values.specs.declared.values.Value.TheVariants as values
-use Rattle.abc_base_graphs.specs.Ways.{before, steps, way}
+use Rattle.abc_base_graphs.specs.Ways.{before, places_along, way}
 use Rattle.abc_heap_store.specs.Heap.{Heap, Object, object_at}
 use Rattle.abc_heap_store.specs.What.{is_array}
 use Rattle.abc_link_names.specs.Pool.{name, qname}
 use Rattle.abc_link_names.specs.declared.named.DefiniteName.{DefiniteName}
-use Rattle.abc_link_names.specs.Linked.{LinkedFile, base}
+use Rattle.abc_link_names.specs.Linked.{LinkedFile, base_layout}
 use Rattle.abc_link_names.specs.Numbering.{part_at}
 use Rattle.abc_link_names.specs.Slots.{handler_at, slots_in, traits_of}
 use Rattle.abc_link_names.specs.Traits.{own_table_of}
@@ -20,12 +20,12 @@ use Rattle.abc_link_names.specs.Tree.{IsBelow}
 use Rattle.abc_link_names.specs.declared.part.Part.{Part}
 use Rattle.abc_link_names.specs.declared.part.Part.TheVariants as parts
 use Rattle.abc_link_names.proofs.Tree.{below_self, below_trans}
-use Rattle.abc_objects.specs.Candidates.{Candidate, OfElement, OfLength, OfProperty, OfTrait, answer, candidates_on, elements, elements_from, fits, found, found_as, layout_at, own_things, properties, property_at, things_along, traits_after, traits_on, where_public}
-use Rattle.abc_objects.specs.Laws.{FindsAMethod, FindsOwnMethods, HasMethod, IsMethodOf, method_in}
+use Rattle.abc_objects.specs.Candidates.{Candidate, OfElement, OfLength, OfProperty, OfTrait, answer_of_search, candidates_on, element_candidates, elements_from, fits, found_candidate, found_as, layout_at, own_things, property_candidates, property_at, things_along, traits_after, traits_on, where_public}
+use Rattle.abc_objects.specs.Laws.{FindsAMethod, FindsOwnMethods, HasMethod, IsMethodOf, method_when_run}
 use Rattle.abc_objects.specs.Objects.{delegate_at}
 use Rattle.abc_objects.specs.Results.{skip_for}
 use Rattle.abc_objects.specs.Searches.{declared_found, found_on}
-use Rattle.abc_objects.specs.Spaces.{holds_public}
+use Rattle.abc_objects.specs.Spaces.{name_holds_public}
 use Rattle.abc_objects.specs.Traits.{Trait, caught_trait, members_in, own, own_traits_of, slots_under, traits_from, traits_named}
 use Rattle.abc_objects.specs.declared.found.Found.{Found}
 use Rattle.abc_objects.specs.declared.found.Found.TheVariants as founds
@@ -53,9 +53,9 @@ AreNamed l x ts = Each (λ (t : Trait). IsNamed l x t.declared.member) ts
 members_named : (l : LinkedFile) (x k slot : ℕ) (t : TraitInfo) (d : DefiniteName) → slice_get (own_table_of l x) k ≡ Some t → (b : TraitBody) → t.body ≡ b → AreNamed l x (traits_named l d (members_in slot b))
 members_named l x k slot t d at (bodies.Slot id ty value constant) e = (tt, tt)
 members_named l x k slot t d at (bodies.Class id c) e = (tt, tt)
-members_named l x k slot t d at (bodies.Method i m) e = (record { place = k; trait = t; at = at; names = ap method_in e }, tt)
-members_named l x k slot t d at (bodies.Getter i m) e = (record { place = k; trait = t; at = at; names = ap method_in e }, tt)
-members_named l x k slot t d at (bodies.Setter i m) e = (record { place = k; trait = t; at = at; names = ap method_in e }, tt)
+members_named l x k slot t d at (bodies.Method i m) e = (record { place = k; trait = t; at = at; names = ap method_when_run e }, tt)
+members_named l x k slot t d at (bodies.Getter i m) e = (record { place = k; trait = t; at = at; names = ap method_when_run e }, tt)
+members_named l x k slot t d at (bodies.Setter i m) e = (record { place = k; trait = t; at = at; names = ap method_when_run e }, tt)
 members_named l x k slot t d at (bodies.Function id m) e = tt
 
 table_named : (l : LinkedFile) (x k slot : ℕ) (ts : List TraitInfo) → ((j : ℕ) (u : TraitInfo) → slice_get ts j ≡ Some u → slice_get (own_table_of l x) (k + j) ≡ Some u) → AreNamed l x (traits_from l slot ts)
@@ -81,17 +81,17 @@ part_named l x slot p e =
     (λ j u at. let same : j ≡ 0 + j = omega arith in subst (λ i. slice_get (own_table_of l x) i ≡ Some u) same (ap (λ q. slice_get (traits_of l.file q) j) e ∙ at))
 
 own_named : (l : LinkedFile) (x : ℕ) → AreNamed l x (own l x)
-own_named l x = part_named l x (slots_under l (base l x)) (part_at l.parts x) refl
+own_named l x = part_named l x (slots_under l (base_layout l x)) (part_at l.parts x) refl
 
 -- ---- the layouts of a way stand above the first
 
-steps_above : (l : LinkedFile) (from n : ℕ) (at : Option ℕ) → ((x : ℕ) → at ≡ Some x → IsBelow l from x) → Each (IsBelow l from) (steps (base l) n at)
+steps_above : (l : LinkedFile) (from n : ℕ) (at : Option ℕ) → ((x : ℕ) → at ≡ Some x → IsBelow l from x) → Each (IsBelow l from) (places_along (base_layout l) n at)
 steps_above l from zero at h = tt
 steps_above l from (suc n) None h = tt
 steps_above l from (suc n) (Some x) h =
-    (h x refl, steps_above l from n (base l x) (λ y e. below_trans l from x y (h x refl) (record { steps = 1; climb = ap (λ o. unwrap_or o 0) e })))
+    (h x refl, steps_above l from n (base_layout l x) (λ y e. below_trans l from x y (h x refl) (record { steps = 1; climb = ap (λ o. unwrap_or o 0) e })))
 
-way_above : (l : LinkedFile) (from : ℕ) → Each (IsBelow l from) (way (base l) (Some from))
+way_above : (l : LinkedFile) (from : ℕ) → Each (IsBelow l from) (way (base_layout l) (Some from))
 unfolding way
 way_above l from = steps_above l from (suc from) (Some from) (λ x e. let q : from ≡ x = cc in subst (IsBelow l from) q (below_self l from))
 
@@ -118,7 +118,7 @@ member_method l from x (members.Method m) b h = (refl, (x, b, h))
 member_method l from x (members.Getter m) b h = (x, b, h)
 member_method l from x (members.Setter m) b h = (x, b, h)
 
-candidate_method : (l : LinkedFile) (from : ℕ) (c : Candidate) → IsAbove l from c → IsMethodOf l from (found l c)
+candidate_method : (l : LinkedFile) (from : ℕ) (c : Candidate) → IsAbove l from c → IsMethodOf l from (found_candidate l c)
 candidate_method l from (OfTrait x p t) h = member_method l from x t.declared.member h.0 h.1
 candidate_method l from (OfLength o) h = tt
 candidate_method l from (OfElement o k) h = tt
@@ -128,7 +128,7 @@ none_method : (l : LinkedFile) (from : ℕ) (b : Bool) → IsMethodOf l from (co
 none_method l from true = tt
 none_method l from false = tt
 
-answer_method : (l : LinkedFile) (h : Heap) (n : Name) (s : Skip) (from : ℕ) (cs : List Candidate) → Each (IsAbove l from) cs → IsMethodOf l from (answer l h n s cs)
+answer_method : (l : LinkedFile) (h : Heap) (n : Name) (s : Skip) (from : ℕ) (cs : List Candidate) → Each (IsAbove l from) cs → IsMethodOf l from (answer_of_search l h n s cs)
 answer_method l h n s from cs a = elim (answers_the_first l h n s cs) [
   | inl hit ↦
       let is = each_within (IsAbove l from) hit.1.before hit.1.after hit.0 (subst (λ ds. Each (IsAbove l from) ds) hit.1.parts a) in
@@ -139,8 +139,8 @@ answer_method l h n s from cs a = elim (answers_the_first l h n s cs) [
 pub finds_a_method : FindsAMethod
 unfolding declared_found
 finds_a_method l h object from n want =
-    answer_method l h n (skip_for want) from (traits_after l (before from (way (base l) (Some object))) (way (base l) (Some from)))
-    (after_above l from (before from (way (base l) (Some object))) (way (base l) (Some from)) (way_above l from))
+    answer_method l h n (skip_for want) from (traits_after l (before from (way (base_layout l) (Some object))) (way (base_layout l) (Some from)))
+    (after_above l from (before from (way (base_layout l) (Some object))) (way (base_layout l) (Some from)) (way_above l from))
 
 -- ---- on an object
 
@@ -148,7 +148,7 @@ elements_above : (l : LinkedFile) (from o k : ℕ) (vs : List Value) → Each (I
 elements_above l from o k [] = tt
 elements_above l from o k (v ∷ vs) = (tt, elements_above l from o (k + 1) vs)
 
-array_above : (l : LinkedFile) (from o : ℕ) (ob : Object) → Each (IsAbove l from) (elements o ob)
+array_above : (l : LinkedFile) (from o : ℕ) (ob : Object) → Each (IsAbove l from) (element_candidates o ob)
 array_above l from o ob = go (is_array ob.what)
   where
     go : (b : Bool) → Each (IsAbove l from) (cond b (OfLength o ∷ elements_from o 0 ob.elements) [])
@@ -162,7 +162,7 @@ property_above l from o (Some p) = (tt, tt)
 things_above : (l : LinkedFile) (from : ℕ) (h : Heap) (o : ℕ) → Each (IsAbove l from) (own_things h o)
 things_above l from h o =
     let ob = object_at h.objects o in
-    each_append (IsAbove l from) (elements o ob) (properties o ob) (array_above l from o ob) (each_flat (λ p. Unit {0}) (IsAbove l from) (property_at o) (reverse ob.properties) (each_unit (reverse ob.properties)) (λ p u. property_above l from o p))
+    each_append (IsAbove l from) (element_candidates o ob) (property_candidates o ob) (array_above l from o ob) (each_flat (λ p. Unit {0}) (IsAbove l from) (property_at o) (reverse ob.properties) (each_unit (reverse ob.properties)) (λ p u. property_above l from o p))
 
 along_above : (l : LinkedFile) (from : ℕ) (h : Heap) (at : Option ℕ) → Each (IsAbove l from) (things_along h at)
 along_above l from h at = each_flat (λ o. Unit {0}) (IsAbove l from) (own_things h) (way (delegate_at h) at) (each_unit (way (delegate_at h) at)) (λ o u. things_above l from h o)
@@ -173,7 +173,7 @@ finds_own_methods l h o n want =
     let x = layout_at h o.0 in
     answer_method l h n (skip_for want) x (candidates_on l h n (values.Obj o))
     (each_append (IsAbove l x) (traits_on l h (values.Obj o)) (where_public l n (things_along h (Some o.0)))
-    (after_above l x (before x (way (base l) (Some x))) (way (base l) (Some x)) (way_above l x)) (public (holds_public l n.spaces)))
+    (after_above l x (before x (way (base_layout l) (Some x))) (way (base_layout l) (Some x)) (way_above l x)) (public (name_holds_public l n.spaces)))
   where
     public : (b : Bool) → Each (IsAbove l (layout_at h o.0)) (cond b (things_along h (Some o.0)) [])
     public true = along_above l (layout_at h o.0) h (Some o.0)

@@ -12,7 +12,7 @@ use Rattle.abc_heap_values.specs.declared.values.ObjId.{ObjId}
 use Rattle.abc_heap_values.specs.declared.values.Span.{Span}
 use Rattle.abc_heap_values.specs.declared.values.Value.{Value}
 use Rattle.abc_heap_values.specs.declared.values.Value.TheVariants as values
-use Rattle.abc_heap_store.specs.Heap.{Heap, Object, obj_id, object_at, slots_of as slots_of_object}
+use Rattle.abc_heap_store.specs.Heap.{Heap, Object, obj_id, object_at, slots_of_object}
 use Rattle.abc_heap_store.specs.What.{is_array}
 use Rattle.abc_heap_store.specs.declared.records.Limits.{Limits}
 use Rattle.abc_heap_store.specs.declared.records.ScopeId.{ScopeId}
@@ -27,9 +27,9 @@ use Rattle.abc_link_names.specs.declared.part.Part.{Part}
 use Rattle.abc_link_names.specs.declared.part.Part.TheVariants as parts
 use Rattle.abc_link_names.specs.declared.types.SlotInfo.{SlotInfo}
 use Rattle.abc_objects.specs.Fixed.{fixed_bytes}
-use Rattle.abc_objects.specs.Opening.{above_host, class_object, entry_of, function_object, function_objects, global_number, global_object, host_object, host_object_number, host_properties, opened, opening, opening_objects, property_names, prototype_id, prototype_object, spans_from}
+use Rattle.abc_objects.specs.Opening.{above_host, host_class_object, entry_of, function_object, function_objects, opening_global_number, global_object, host_object, opening_host_object, host_properties, opening_object, opening, opening_objects, property_names, prototype_id, prototype_object, spans_from}
 use Rattle.abc_objects.specs.Starts.{start_value, StartsExist}
-use Rattle.abc_objects.specs.Stands.{Each, IsMadeAs, IsOlder, IsProperty, NamesParts, ObjectStands, ScopeStands, StandsOver, array_layout, host_class_number, host_layout}
+use Rattle.abc_objects.specs.Stands.{EachAt, IsMadeAs, IsOlder, IsProperty, NamesParts, ObjectStands, ScopeStands, StandsOver, array_layout, host_class_number, host_layout}
 use Rattle.abc_objects.specs.Values.{Exists}
 use Rattle.abc_objects.proofs.Grown.{keeps_same}
 use Rattle.abc_objects.proofs.Made.{bare_stands, host_found, part_found, slots_are, object_slots}
@@ -56,7 +56,7 @@ Opens l h o ob = ObjectStands l h o ob × ((k s : ℕ) (c : Option ScopeId) (i :
 not_array : (l : LinkedFile) → IsLinkedFile l → (p : Part) → HasLayout l.file p → (p ≡ parts.Host hosts.Array → ⊥) → (layout_of l p).0 ≢ array_layout l
 not_array l t p has n = λ (q : (layout_of l p).0 ≡ array_layout l). n (sym (part_found l t p has).1 ∙ (ap (part_at l.parts) q ∙ (host_found l t hosts.Array).1))
 
-opened_stands : (l : LinkedFile) (h : Heap) (o : ℕ) (p : Part) (parent : Option HostClass) (what : What) → 62 ≤ length h.fixed → IsLinkedFile l → StartsExist l → HasLayout l.file p → (p ≡ parts.Host hosts.Array → ⊥) → IsOlder o (option_map prototype_id parent) → NamesParts l h what → is_array what ≡ false → ObjectStands l h o (opened l p parent what)
+opened_stands : (l : LinkedFile) (h : Heap) (o : ℕ) (p : Part) (parent : Option HostClass) (what : What) → 62 ≤ length h.fixed → IsLinkedFile l → StartsExist l → HasLayout l.file p → (p ≡ parts.Host hosts.Array → ⊥) → IsOlder o (option_map prototype_id parent) → NamesParts l h what → is_array what ≡ false → ObjectStands l h o (opening_object l p parent what)
 opened_stands l h o p parent what f t e has n d names plain =
     bare_stands l h o (layout_of l p).0 (option_map prototype_id parent) what f e (part_found l t p has).0 d names plain (not_array l t p has n)
 
@@ -96,7 +96,7 @@ prototype_opens : (l : LinkedFile) (h : Heap) (c : HostClass) → 62 ≤ length 
 prototype_opens l h c f t e =
     (opened_stands l h (host_number c) (parts.Host hosts.Object) (above_host c) whats.Plain f t e tt (λ q. absurd cc) (older_prototype c) tt refl, λ k s i n q. absurd cc)
 
-class_opens : (l : LinkedFile) (h : Heap) (o : ℕ) (c : HostClass) → 62 ≤ length h.fixed → IsLinkedFile l → StartsExist l → 14 ≤ o → 14 ≤ length h.objects → Opens l h o (class_object l c)
+class_opens : (l : LinkedFile) (h : Heap) (o : ℕ) (c : HostClass) → 62 ≤ length h.fixed → IsLinkedFile l → StartsExist l → 14 ≤ o → 14 ≤ length h.objects → Opens l h o (host_class_object l c)
 class_opens l h o c f t e b n =
     let s = opened_stands l h o (parts.HostClassObject c) (Some hosts.Class) (whats.HostClass c) f t e tt (λ q. absurd cc) (omega arith) tt refl in
     let there : host_number c < length h.objects = omega (arith, few_classes c) in (
@@ -124,7 +124,7 @@ global_opens l h o s f t e b n =
     (opened_stands l h o (parts.Global s) (Some hosts.Object) (whats.Global s) f t e n (λ q. absurd cc) (omega arith) n refl, λ k i m j q. absurd cc)
 
 -- the host object's properties
-properties_stand : (l : LinkedFile) (h : Heap) (o at : ℕ) (names : List (List ℕ)) → at + length (concat names) ≤ length h.fixed → o + length names ≤ length h.objects → Each (IsProperty l h) (host_properties o (spans_from at names))
+properties_stand : (l : LinkedFile) (h : Heap) (o at : ℕ) (names : List (List ℕ)) → at + length (concat names) ≤ length h.fixed → o + length names ≤ length h.objects → EachAt (IsProperty l h) (host_properties o (spans_from at names))
 properties_stand l h o at [] a b k p q = absurd cc
 properties_stand l h o at (t ∷ ts) a b zero p q =
     let x : Option (Span × Value) = Some (record { part = 0; start = at; len = length t }, values.Obj (obj_id o)) in
@@ -164,7 +164,7 @@ abbrev protos : LinkedFile → List Object
 protos l = map (prototype_object l) host_classes
 
 abbrev natives : LinkedFile → List Object
-natives l = map (class_object l) host_classes
+natives l = map (host_class_object l) host_classes
 
 two_length : (l : LinkedFile) → length (protos l ++ natives l) ≡ 28
 two_length l =
@@ -206,7 +206,7 @@ objects_open l h fs f t e same n =
     let z : host_number r.0 ≡ 0 + k = omega (arith, r.1) in
     subst (Opens l h (0 + k)) r.2 (subst (λ i. Opens l h i (prototype_object l r.0)) z (prototype_opens l h r.0 q62 t e)) in
     let b : From (Opens l h) 14 (natives l) = λ k x q.
-    let r = at_class (class_object l) k x q in
+    let r = at_class (host_class_object l) k x q in
     subst (Opens l h (14 + k)) r.2 (class_opens l h (14 + k) r.0 q62 t e (omega arith) q14) in
     let c : From (Opens l h) 28 (function_objects l (length fs)) = functions_open l h (length fs) q62 t e count in
     let d : From (Opens l h) (29 + length fs) (host_object l (property_names fs) ∷ []) = λ k x q. host_at k x q in
@@ -227,24 +227,24 @@ objects_open l h fs f t e same n =
 
 -- ---- where they stand
 
-pub class_there : (l : LinkedFile) (fs : List (List ℕ)) (c : HostClass) → slice_get (opening_objects l fs) (host_class_number c) ≡ Some (class_object l c)
+pub class_there : (l : LinkedFile) (fs : List (List ℕ)) (c : HostClass) → slice_get (opening_objects l fs) (host_class_number c) ≡ Some (host_class_object l c)
 class_there l fs c =
     let scripts = length l.file.scripts in
     let p : length (protos l) ≡ 14 = refl in
-    left_at (protos l ++ natives l ++ function_objects l (length fs) ++ host_object l (property_names fs) ∷ []) (map (global_object l) (range_with_len 0 scripts)) (host_class_number c) (class_object l c)
-    (left_at (protos l ++ natives l ++ function_objects l (length fs)) (host_object l (property_names fs) ∷ []) (host_class_number c) (class_object l c)
-    (left_at (protos l ++ natives l) (function_objects l (length fs)) (host_class_number c) (class_object l c)
-    (right_at (protos l) (natives l) (host_number c) (host_class_number c) (omega (arith, p)) ∙ class_at (class_object l) c)))
+    left_at (protos l ++ natives l ++ function_objects l (length fs) ++ host_object l (property_names fs) ∷ []) (map (global_object l) (range_with_len 0 scripts)) (host_class_number c) (host_class_object l c)
+    (left_at (protos l ++ natives l ++ function_objects l (length fs)) (host_object l (property_names fs) ∷ []) (host_class_number c) (host_class_object l c)
+    (left_at (protos l ++ natives l) (function_objects l (length fs)) (host_class_number c) (host_class_object l c)
+    (right_at (protos l) (natives l) (host_number c) (host_class_number c) (omega (arith, p)) ∙ class_at (host_class_object l) c)))
 
-pub host_there : (l : LinkedFile) (fs : List (List ℕ)) → slice_get (opening_objects l fs) (host_object_number (length fs)) ≡ Some (host_object l (property_names fs))
+pub host_there : (l : LinkedFile) (fs : List (List ℕ)) → slice_get (opening_objects l fs) (opening_host_object (length fs)) ≡ Some (host_object l (property_names fs))
 host_there l fs =
-    left_at (protos l ++ natives l ++ function_objects l (length fs) ++ host_object l (property_names fs) ∷ []) (map (global_object l) (range_with_len 0 (length l.file.scripts))) (host_object_number (length fs)) (host_object l (property_names fs))
-    (right_at (protos l ++ natives l ++ function_objects l (length fs)) (host_object l (property_names fs) ∷ []) 0 (host_object_number (length fs)) (omega (arith, three_length l (length fs))))
+    left_at (protos l ++ natives l ++ function_objects l (length fs) ++ host_object l (property_names fs) ∷ []) (map (global_object l) (range_with_len 0 (length l.file.scripts))) (opening_host_object (length fs)) (host_object l (property_names fs))
+    (right_at (protos l ++ natives l ++ function_objects l (length fs)) (host_object l (property_names fs) ∷ []) 0 (opening_host_object (length fs)) (omega (arith, three_length l (length fs))))
 
-pub global_there : (l : LinkedFile) (fs : List (List ℕ)) (s : ℕ) → s < length l.file.scripts → slice_get (opening_objects l fs) (global_number (length fs) s) ≡ Some (global_object l s)
+pub global_there : (l : LinkedFile) (fs : List (List ℕ)) (s : ℕ) → s < length l.file.scripts → slice_get (opening_objects l fs) (opening_global_number (length fs) s) ≡ Some (global_object l s)
 global_there l fs s b =
     let z : 0 + s ≡ s = omega arith in
-    right_at (protos l ++ natives l ++ function_objects l (length fs) ++ host_object l (property_names fs) ∷ []) (map (global_object l) (range_with_len 0 (length l.file.scripts))) s (global_number (length fs) s) (omega (arith, four_length l fs))
+    right_at (protos l ++ natives l ++ function_objects l (length fs) ++ host_object l (property_names fs) ∷ []) (map (global_object l) (range_with_len 0 (length l.file.scripts))) s (opening_global_number (length fs) s) (omega (arith, four_length l fs))
     ∙ (range_at (global_object l) 0 (length l.file.scripts) s b ∙ ap (λ i. Some (global_object l i)) z)
 
 -- ---- the opening heap stands over its file
@@ -280,13 +280,13 @@ opening_stands l fs limits t e few =
           let some = class_slots l t c in
           let n = length-set (map (λ (i : SlotInfo). start_value l.file.strings i.start) (slots_of l (layout_of l (parts.HostClassObject c)).0)) 0 (values.Obj (prototype_id c)) in
           let m = length-map (slots_of l (layout_of l (parts.HostClassObject c)).0) (λ (i : SlotInfo). start_value l.file.strings i.start) in
-          slots_there h.objects (host_class_number c) (class_object l c) (class_there l fs c) (omega (arith, some, n, m));
+          slots_there h.objects (host_class_number c) (host_class_object l c) (class_there l fs c) (omega (arith, some, n, m));
       strings = refl;
       fixed = (concat (property_names fs), refl);
       objects = λ o ob q. (at_zero o ob (each o ob q)).0;
       scopes = λ s n q.
-          let r = at_range (λ (i : ℕ). entry_of (global_number (length fs) i)) 0 scripts s n q in
-          let own : ScopeStands h s (entry_of (global_number (length fs) (0 + s))) = record { object = omega (arith, r.0, count); parent = tt } in
+          let r = at_range (λ (i : ℕ). entry_of (opening_global_number (length fs) i)) 0 scripts s n q in
+          let own : ScopeStands h s (entry_of (opening_global_number (length fs) (0 + s))) = record { object = omega (arith, r.0, count); parent = tt } in
           subst (ScopeStands h s) r.1 own;
       counted = length-replicate (length l.file.instances) no_object;
       named = λ k o q. absurd (no_class_named (length l.file.instances) k o q);
@@ -298,16 +298,16 @@ opening_stands l fs limits t e few =
 
 -- ---- what stands over a file has what the opening made
 
-pub class_made : (l : LinkedFile) (h : Heap) (c : HostClass) → StandsOver l h → IsMadeAs h (obj_id (host_class_number c)) (class_object l c)
-class_made l h c s = s.opening.objects (host_class_number c) (class_object l c) (class_there l h.formulas c)
+pub class_made : (l : LinkedFile) (h : Heap) (c : HostClass) → StandsOver l h → IsMadeAs h (obj_id (host_class_number c)) (host_class_object l c)
+class_made l h c s = s.opening.objects (host_class_number c) (host_class_object l c) (class_there l h.formulas c)
 
-pub host_made : (l : LinkedFile) (h : Heap) → StandsOver l h → IsMadeAs h (obj_id (host_object_number (length h.formulas))) (host_object l (property_names h.formulas))
-host_made l h s = s.opening.objects (host_object_number (length h.formulas)) (host_object l (property_names h.formulas)) (host_there l h.formulas)
+pub host_made : (l : LinkedFile) (h : Heap) → StandsOver l h → IsMadeAs h (obj_id (opening_host_object (length h.formulas))) (host_object l (property_names h.formulas))
+host_made l h s = s.opening.objects (opening_host_object (length h.formulas)) (host_object l (property_names h.formulas)) (host_there l h.formulas)
 
-pub global_made : (l : LinkedFile) (h : Heap) (script : ℕ) → StandsOver l h → script < length l.file.scripts → IsMadeAs h (obj_id (global_number (length h.formulas) script)) (global_object l script)
-global_made l h script s b = s.opening.objects (global_number (length h.formulas) script) (global_object l script) (global_there l h.formulas script b)
+pub global_made : (l : LinkedFile) (h : Heap) (script : ℕ) → StandsOver l h → script < length l.file.scripts → IsMadeAs h (obj_id (opening_global_number (length h.formulas) script)) (global_object l script)
+global_made l h script s b = s.opening.objects (opening_global_number (length h.formulas) script) (global_object l script) (global_there l h.formulas script b)
 
-pub scope_made : (l : LinkedFile) (h : Heap) (script : ℕ) → StandsOver l h → script < length l.file.scripts → slice_get h.scopes script ≡ Some (entry_of (global_number (length h.formulas) script))
+pub scope_made : (l : LinkedFile) (h : Heap) (script : ℕ) → StandsOver l h → script < length l.file.scripts → slice_get h.scopes script ≡ Some (entry_of (opening_global_number (length h.formulas) script))
 scope_made l h script s b =
     let z : 0 + script ≡ script = omega arith in
-    s.opening.scopes script (entry_of (global_number (length h.formulas) script)) (range_at (λ (i : ℕ). entry_of (global_number (length h.formulas) i)) 0 (length l.file.scripts) script b ∙ ap (λ i. Some (entry_of (global_number (length h.formulas) i))) z)
+    s.opening.scopes script (entry_of (opening_global_number (length h.formulas) script)) (range_at (λ (i : ℕ). entry_of (opening_global_number (length h.formulas) i)) 0 (length l.file.scripts) script b ∙ ap (λ i. Some (entry_of (opening_global_number (length h.formulas) i))) z)

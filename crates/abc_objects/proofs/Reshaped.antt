@@ -8,18 +8,18 @@ use Rattle.abc_heap_values.proofs.Parts.{slice_get_more}
 use Rattle.abc_heap_store.specs.Heap.{Heap, Object, object_at}
 use Rattle.abc_heap_store.specs.Texts.{IsText}
 use Rattle.abc_heap_store.specs.What.{is_array}
-use Rattle.abc_heap_store.specs.Properties.{with_put, with_delete, put_at, delete_at, place_named, valued, filled}
+use Rattle.abc_heap_store.specs.Properties.{with_put, with_delete, put_at, delete_at, place_named, with_value, present_property}
 use Rattle.abc_heap_store.specs.Changes.{with_slot, with_element, with_new_element}
 use Rattle.abc_heap_store.proofs.Growth.{set_read}
 use Rattle.abc_link_names.specs.Linked.{LinkedFile}
 use Rattle.abc_objects.specs.Values.{Exists}
-use Rattle.abc_objects.specs.Stands.{StandsOver, IsProperty, Each}
+use Rattle.abc_objects.specs.Stands.{StandsOver, IsProperty, EachAt}
 use Rattle.abc_objects.proofs.Kept.{Reshapes}
 
-pub each_set : {X : Type 0} (P : X → Type 0) (xs : List X) (k : ℕ) (x : X) → Each P xs → P x → Each P (set xs k x)
+pub each_set : {X : Type 0} (P : X → Type 0) (xs : List X) (k : ℕ) (x : X) → EachAt P xs → P x → EachAt P (set xs k x)
 each_set P xs k x e p = λ i y q. elim (set_read xs k i x y q) [ inl r ↦ subst P r.1 p | inr r ↦ e i y r.1 ]
 
-pub each_more : {X : Type 0} (P : X → Type 0) (xs : List X) (x : X) → Each P xs → P x → Each P (xs ++ x ∷ [])
+pub each_more : {X : Type 0} (P : X → Type 0) (xs : List X) (x : X) → EachAt P xs → P x → EachAt P (xs ++ x ∷ [])
 each_more P xs x e p = λ i y q. elim (slice_get_more xs x y i q) [ inl r ↦ e i y r.1 | inr r ↦ subst P r.1 p ]
 
 pub slot_reshapes : (l : LinkedFile) (h : Heap) (o k : ℕ) (v : Value) → Exists l h v → Reshapes l h o (with_slot k v)
@@ -84,19 +84,19 @@ new_element_reshapes l h o v w x = record {
 }
 
 -- a write of a property
-valued_stands : (l : LinkedFile) (h : Heap) (ps : List (Option (Span × Value))) (i : ℕ) (v : Value) → Each (IsProperty l h) ps → Exists l h v → IsProperty l h (valued v (filled (slice_get ps i)))
+valued_stands : (l : LinkedFile) (h : Heap) (ps : List (Option (Span × Value))) (i : ℕ) (v : Value) → EachAt (IsProperty l h) ps → Exists l h v → IsProperty l h (with_value v (present_property (slice_get ps i)))
 valued_stands l h ps i v e x = go (slice_get ps i) refl
   where
-    go : (p : Option (Option (Span × Value))) → slice_get ps i ≡ p → IsProperty l h (valued v (filled p))
+    go : (p : Option (Option (Span × Value))) → slice_get ps i ≡ p → IsProperty l h (with_value v (present_property p))
     go None q = tt
     go (Some None) q = tt
     go (Some (Some (a, b))) q = ((e i (Some (a, b)) q).0, x)
 
-put_stands : (l : LinkedFile) (h : Heap) (ps : List (Option (Span × Value))) (p : Option ℕ) (n : Span) (v : Value) → Each (IsProperty l h) ps → IsText l.file.strings h n → Exists l h v → Each (IsProperty l h) (put_at n v ps p)
+put_stands : (l : LinkedFile) (h : Heap) (ps : List (Option (Span × Value))) (p : Option ℕ) (n : Span) (v : Value) → EachAt (IsProperty l h) ps → IsText l.file.strings h n → Exists l h v → EachAt (IsProperty l h) (put_at n v ps p)
 put_stands l h ps None n v e t x = each_more (IsProperty l h) ps (Some (n, v)) e (t, x)
-put_stands l h ps (Some i) n v e t x = each_set (IsProperty l h) ps i (valued v (filled (slice_get ps i))) e (valued_stands l h ps i v e x)
+put_stands l h ps (Some i) n v e t x = each_set (IsProperty l h) ps i (with_value v (present_property (slice_get ps i))) e (valued_stands l h ps i v e x)
 
-delete_stands : (l : LinkedFile) (h : Heap) (ps : List (Option (Span × Value))) (p : Option ℕ) → Each (IsProperty l h) ps → Each (IsProperty l h) (delete_at ps p)
+delete_stands : (l : LinkedFile) (h : Heap) (ps : List (Option (Span × Value))) (p : Option ℕ) → EachAt (IsProperty l h) ps → EachAt (IsProperty l h) (delete_at ps p)
 delete_stands l h ps None e = e
 delete_stands l h ps (Some i) e = each_set (IsProperty l h) ps i None e tt
 

@@ -28,7 +28,7 @@ use Rattle.abc_link_names.specs.Pool.{no_space, space}
 use Rattle.abc_link_names.specs.declared.named.Named.{Named}
 use Rattle.abc_link_names.specs.declared.named.Named.TheVariants as named
 use Rattle.abc_link_names.proofs.Finding.{falling}
-use Rattle.abc_link_names.specs.Linked.{IsLinkedFile, LinkedFile, base, layout_of}
+use Rattle.abc_link_names.specs.Linked.{IsLinkedFile, LinkedFile, base_layout, layout_of}
 use Rattle.abc_link_names.specs.Numbering.{part_at}
 use Rattle.abc_link_names.specs.Parts.{HasLayout}
 use Rattle.abc_link_names.specs.Slots.{HasFewSlots, handler_at, own_slots, slots_in, slots_of}
@@ -38,7 +38,7 @@ use Rattle.abc_link_names.specs.declared.part.Part.TheVariants as parts
 use Rattle.abc_link_names.specs.declared.types.SlotInfo.{SlotInfo}
 use Rattle.abc_link_names.specs.declared.types.Ty.TheVariants as types
 use Rattle.abc_link_names.specs.PartsByNumber.{body_at, class_at, no_body, no_class, no_script, script_at}
-use Rattle.abc_link_names.specs.Starts.{coerced, default_of, host_default, int_at, number_of, raw_of, space_value, start_of, to_any, to_boolean, to_class, to_host, to_int, to_namespace, to_number, to_object, to_text, to_uint, to_void, uint_at}
+use Rattle.abc_link_names.specs.Starts.{start_as, default_of, host_default, int_at, number_of_truth, raw_of_option, space_value, start_of, to_any, to_boolean, to_class, to_host, to_int, to_namespace, to_number, to_object, to_text, to_uint, to_void, uint_at}
 use Rattle.abc_link_names.specs.ItemTypes.{type_or_any}
 use Rattle.abc_link_names.specs.declared.start.Raw.{Raw}
 use Rattle.abc_link_names.specs.declared.start.Raw.TheVariants as raws
@@ -55,24 +55,24 @@ use Rattle.abc_file_types.specs.declared.tables.Abc.{Abc}
 use Rattle.abc_file_types.specs.declared.traits.TraitBody.{TraitBody}
 use Rattle.abc_file_types.specs.declared.traits.TraitBody.TheVariants as traits
 use Rattle.abc_file_types.specs.declared.traits.TraitInfo.{TraitInfo}
-use Rattle.abc_objects.specs.Stands.{Each}
+use Rattle.abc_objects.specs.Stands.{EachAt}
 use Rattle.abc_objects.specs.Starts.{IsShort, StartExists, StartsExist}
 use Rattle.abc_objects.specs.Values.{IsSpace}
 use Rattle.abc_objects.proofs.Kept.{in_either}
 
 -- ---- lists
 
-each_none : {X : Type 0} (P : X → Type 0) → Each P []
+each_none : {X : Type 0} (P : X → Type 0) → EachAt P []
 each_none P = λ k x q. absurd cc
 
-each_one : {X : Type 0} (P : X → Type 0) (x : X) → P x → Each P (x ∷ [])
+each_one : {X : Type 0} (P : X → Type 0) (x : X) → P x → EachAt P (x ∷ [])
 each_one P x p zero y q = let w : x ≡ y = cc in subst P w p
 each_one P x p (suc k) y q = absurd cc
 
-each_both : {X : Type 0} (P : X → Type 0) (xs ys : List X) → Each P xs → Each P ys → Each P (xs ++ ys)
+each_both : {X : Type 0} (P : X → Type 0) (xs ys : List X) → EachAt P xs → EachAt P ys → EachAt P (xs ++ ys)
 each_both P xs ys a b = λ k x q. elim (in_either xs ys k x q) [ inl r ↦ a k x r.1 | inr r ↦ b r.0 x r.2 ]
 
-each_flat : {X Y : Type 0} (P : Y → Type 0) (Q : X → Type 0) (f : X → List Y) (xs : List X) → ((x : X) → Q x → Each P (f x)) → All Q xs → Each P (flat_map f xs)
+each_flat : {X Y : Type 0} (P : Y → Type 0) (Q : X → Type 0) (f : X → List Y) (xs : List X) → ((x : X) → Q x → EachAt P (f x)) → All Q xs → EachAt P (flat_map f xs)
 each_flat P Q f [] g a = each_none P
 each_flat P Q f (x ∷ xs) g a = each_both P (f x) (flat_map f xs) (g x (All-head Q x xs a)) (each_flat P Q f xs g (All-tail Q x xs a))
 
@@ -182,7 +182,7 @@ space_there l n some low = go (nat_eq n 0)
     go true = tt
     go false = (omega arith, within)
 
-raw_there : (l : LinkedFile) (kind : ValueKind) (n : ℕ) → Stored l.file → n ≢ 0 → n < 2 ^ 30 → has_value (sizes_of l.file) n kind ≡ true → RawExists l (raw_of l.file kind n)
+raw_there : (l : LinkedFile) (kind : ValueKind) (n : ℕ) → Stored l.file → n ≢ 0 → n < 2 ^ 30 → has_value (sizes_of l.file) n kind ≡ true → RawExists l (raw_of_option l.file kind n)
 raw_there l kinds.Undefined n s some b e = tt
 raw_there l kinds.Utf8 n s some b e = b
 raw_there l kinds.Int n s some b e = int_there l.file n s
@@ -199,7 +199,7 @@ raw_there l kinds.Protected n s some b e = space_there l n some e
 raw_there l kinds.Explicit n s some b e = space_there l n some e
 raw_there l kinds.StaticProtected n s some b e = space_there l n some e
 
-truth_number : (b : Bool) → IsNumber (number_of b)
+truth_number : (b : Bool) → IsNumber (number_of_truth b)
 truth_number true = (omega (arith, ints), omega (arith, ints))
 truth_number false = (omega (arith, ints), omega (arith, ints))
 
@@ -281,7 +281,7 @@ host_there l hosts.Number r s e = to_number_there l r e
 host_there l hosts.Boolean r s e = boolean_there l r
 host_there l other r s e = class_there l r
 
-coerced_there : (l : LinkedFile) (t : Named) (r : Raw) → Stored l.file → RawExists l r → OrExists l (coerced l.file t r)
+coerced_there : (l : LinkedFile) (t : Named) (r : Raw) → Stored l.file → RawExists l r → OrExists l (start_as l.file t r)
 coerced_there l named.Any r s e = any_there l r s e
 coerced_there l named.Void r s e = void_there l r
 coerced_there l (named.Host h) r s e = host_there l h r s e
@@ -309,13 +309,13 @@ start_there l t None s f = default_there l t
 start_there l t (Some o) s f =
     let w = (value_fits (sizes_of l.file) o).0 f in
     let fits = (option_fits (sizes_of l.file) o).0 w.1 in
-    coerced_there l t (raw_of l.file o.kind o.value) s (raw_there l o.kind o.value s w.0 ((number_fits o.value).0 fits.0) fits.1)
+    coerced_there l t (raw_of_option l.file o.kind o.value) s (raw_there l o.kind o.value s w.0 ((number_fits o.value).0 fits.0) fits.1)
 
 or_undefined : (l : LinkedFile) (o : Option Start) → OrExists l o → StartExists l (unwrap_or o starts.Undefined)
 or_undefined l None e = tt
 or_undefined l (Some x) e = e
 
-body_there : (l : LinkedFile) (t : TraitBody) → Stored l.file → FitsTraitFields (sizes_of l.file) t → Each (Starts l) (slots_in l t)
+body_there : (l : LinkedFile) (t : TraitBody) → Stored l.file → FitsTraitFields (sizes_of l.file) t → EachAt (Starts l) (slots_in l t)
 body_there l (traits.Slot id ty value constant) s f =
     let fields = (fields_fit (sizes_of l.file) (traits.Slot id ty value constant)).0 f in
     let t = type_or_any (type_named l.file ty) in
@@ -324,13 +324,13 @@ body_there l (traits.Slot id ty value constant) s f =
 body_there l (traits.Class id k) s f = let i : SlotInfo = record { ty = types.Of (layout_of l (parts.ClassObject k)); constant = true; start = starts.Null } in each_one (Starts l) i tt
 body_there l other s f = each_none (Starts l)
 
-traits_there : (l : LinkedFile) (ts : List TraitInfo) → Stored l.file → FitTraits (sizes_of l.file) ts → Each (Starts l) (flat_map (λ (t : TraitInfo). slots_in l t.body) ts)
+traits_there : (l : LinkedFile) (ts : List TraitInfo) → Stored l.file → FitTraits (sizes_of l.file) ts → EachAt (Starts l) (flat_map (λ (t : TraitInfo). slots_in l t.body) ts)
 traits_there l ts s f =
     each_flat (Starts l) (FitsTrait (sizes_of l.file)) (λ (t : TraitInfo). slots_in l t.body) ts
     (λ t fits. body_there l t.body s ((trait_fits (sizes_of l.file) t).0 fits).2) ((traits_fit (sizes_of l.file) ts).0 f).1
 
 -- the own slots of a part
-own_there : (l : LinkedFile) (p : Part) → Fits l.file → HasLayout l.file p → Each (Starts l) (own_slots l p)
+own_there : (l : LinkedFile) (p : Part) → Fits l.file → HasLayout l.file p → EachAt (Starts l) (own_slots l p)
 own_there l (parts.Host hosts.Class) f has = let i : SlotInfo = record { ty = types.Object; constant = true; start = starts.Null } in each_one (Starts l) i tt
 own_there l (parts.Host other) f has = each_none (Starts l)
 own_there l (parts.HostClassObject h) f has = each_none (Starts l)
@@ -359,18 +359,18 @@ pub part_has : (l : LinkedFile) (x : ℕ) → IsLinkedFile l → HasLayout l.fil
 part_has l x t = entry (HasLayout l.file) l.parts x (parts.Host hosts.Object) tt t.numbering.only
 
 -- with what is inherited, which has a lower number
-above_there : (l : LinkedFile) (b : Option ℕ) → ((y : ℕ) → b ≡ Some y → Each (Starts l) (slots_of l y)) → Each (Starts l) (heritage (base l) (λ y. own_slots l (part_at l.parts y)) b)
-above_there l None g = subst (Each (Starts l)) (sym (heritage_none (base l) (λ y. own_slots l (part_at l.parts y)))) (each_none (Starts l))
+above_there : (l : LinkedFile) (b : Option ℕ) → ((y : ℕ) → b ≡ Some y → EachAt (Starts l) (slots_of l y)) → EachAt (Starts l) (heritage (base_layout l) (λ y. own_slots l (part_at l.parts y)) b)
+above_there l None g = subst (EachAt (Starts l)) (sym (heritage_none (base_layout l) (λ y. own_slots l (part_at l.parts y)))) (each_none (Starts l))
 above_there l (Some y) g = g y refl
 
-slots_there : (l : LinkedFile) (n x : ℕ) → IsLinkedFile l → x < n → Each (Starts l) (slots_of l x)
+slots_there : (l : LinkedFile) (n x : ℕ) → IsLinkedFile l → x < n → EachAt (Starts l) (slots_of l x)
 slots_there l zero x t b = absurd (omega arith)
 slots_there l (suc n) x t b =
     let own = λ (y : ℕ). own_slots l (part_at l.parts y) in
     let f = falling l.file l.parts t.numbering in
-    subst (Each (Starts l)) (sym (heritage_some (base l) own f x))
-    (each_both (Starts l) (heritage (base l) own (base l x)) (own x)
-    (above_there l (base l x) (λ y e. let low = f.falls x y e in slots_there l n y t (omega (arith, low))))
+    subst (EachAt (Starts l)) (sym (heritage_some (base_layout l) own f x))
+    (each_both (Starts l) (heritage (base_layout l) own (base_layout l x)) (own x)
+    (above_there l (base_layout l x) (λ y e. let low = f.falls x y e in slots_there l n y t (omega (arith, low))))
     (own_there l (part_at l.parts x) t.fits (part_has l x t)))
 
 pub starts_exist : (l : LinkedFile) → IsLinkedFile l → HasFewSlots l → StartsExist l

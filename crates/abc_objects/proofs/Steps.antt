@@ -20,7 +20,7 @@ use Rattle.abc_heap_store.proofs.Arrays.{length_change}
 use Rattle.abc_heap_store.proofs.Bytes.{take_next_or}
 use Rattle.abc_heap_store.proofs.Makes.{change_last}
 use Rattle.abc_heap_store.specs.Changes.{change, with_made, with_object, with_scopes, with_slot}
-use Rattle.abc_heap_store.specs.Heap.{Heap, Object, HasRoomFor, all_cells, cells_of, ledger, obj_id, slots_of as slots_of_object}
+use Rattle.abc_heap_store.specs.Heap.{Heap, Object, HasRoomFor, all_cells, cells_of, ledger, obj_id, slots_of_object}
 use Rattle.abc_heap_store.specs.declared.records.Limits.{Limits}
 use Rattle.abc_heap_store.specs.declared.records.ScopeNode.{ScopeNode}
 use Rattle.abc_heap_store.specs.declared.records.What.{What}
@@ -33,7 +33,7 @@ use Rattle.abc_link_names.specs.declared.part.Part.{Part}
 use Rattle.abc_link_names.specs.declared.part.Part.TheVariants as parts
 use Rattle.abc_link_names.specs.declared.types.SlotInfo.{SlotInfo}
 use Rattle.abc_objects.specs.Fixed.{fixed_bytes, in_fixed}
-use Rattle.abc_objects.specs.Opening.{IsWithin, above_host, class_object, entry_of, formula_names, formula_objects, function_object, function_objects, global_number, global_object, global_slots, host_object, host_properties, opened, opening, opening_counts, opening_objects, opening_scopes, part_zero, property_names, prototype_id, prototype_object, slot_count, slot_counts, spans_from, with_globals, with_more_properties, with_objects}
+use Rattle.abc_objects.specs.Opening.{IsOpeningWithin, above_host, host_class_object, entry_of, formula_names, formula_objects, function_object, function_objects, opening_global_number, global_object, global_slots, host_object, host_properties, opening_object, opening, opening_counts, opening_objects, opening_scopes, part_zero, property_names, prototype_id, prototype_object, slot_count, slot_counts, spans_from, with_globals, with_more_properties, with_objects}
 use Rattle.abc_objects.specs.Starts.{start_value, start_values, StartsExist}
 use Rattle.abc_objects.specs.Stands.{StandsOver}
 use Rattle.abc_objects.proofs.Made.{no_slots, object_slots}
@@ -74,7 +74,7 @@ room_on h s obs n c m d e r a b =
     let own : HasRoomFor (with_objects obs h) m d = (omega (arith, r.0, a, length-append h.objects obs), omega (arith, r.1, b, all_both h.objects obs)) in
     subst (λ y. HasRoomFor y m d) (sym e) own
 
-pub opened_cells : (l : LinkedFile) (p : Part) (parent : Option HostClass) (what : What) → cells_of (opened l p parent what) ≡ length (slots_of l (layout_of l p).0)
+pub opened_cells : (l : LinkedFile) (p : Part) (parent : Option HostClass) (what : What) → cells_of (opening_object l p parent what) ≡ length (slots_of l (layout_of l p).0)
 opened_cells l p parent what = omega (arith, length-map (slots_of l (layout_of l p).0) (λ (i : SlotInfo). start_value l.file.strings i.start))
 
 pub starts_count : (l : LinkedFile) (x : ℕ) → length (map (λ (i : SlotInfo). start_value l.file.strings i.start) (slots_of l x)) ≡ length (slots_of l x)
@@ -97,11 +97,11 @@ function_slots l t = ap length (no_slots l t hosts.Function refl refl)
 pub prototype_cells : (l : LinkedFile) → IsLinkedFile l → (cs : List HostClass) → all_cells (map (prototype_object l) cs) ≡ 0
 prototype_cells l t cs = all_none (prototype_object l) cs (λ c. opened_cells l (parts.Host hosts.Object) (above_host c) whats.Plain ∙ plain_slots l t)
 
-pub class_cell : (l : LinkedFile) → IsLinkedFile l → (c : HostClass) → cells_of (class_object l c) ≡ 1
+pub class_cell : (l : LinkedFile) → IsLinkedFile l → (c : HostClass) → cells_of (host_class_object l c) ≡ 1
 class_cell l t c = omega (arith, length-set (map (λ (i : SlotInfo). start_value l.file.strings i.start) (slots_of l (layout_of l (parts.HostClassObject c)).0)) 0 (values.Obj (prototype_id c)), starts_count l (layout_of l (parts.HostClassObject c)).0, class_slots l t c)
 
-pub class_cells : (l : LinkedFile) → IsLinkedFile l → (cs : List HostClass) → all_cells (map (class_object l) cs) ≡ length cs
-class_cells l t cs = all_single (class_object l) cs (class_cell l t)
+pub class_cells : (l : LinkedFile) → IsLinkedFile l → (cs : List HostClass) → all_cells (map (host_class_object l) cs) ≡ length cs
+class_cells l t cs = all_single (host_class_object l) cs (class_cell l t)
 
 pub function_cell : (l : LinkedFile) → IsLinkedFile l → (w : What) → cells_of (function_object l w) ≡ 0
 function_cell l t w = opened_cells l (parts.Host hosts.Function) (Some hosts.Function) w ∙ function_slots l t
@@ -129,10 +129,10 @@ prototype_room l h s cs k t b e r =
     let n : length (map (prototype_object l) (take k cs)) ≡ k = omega (arith, length-map (take k cs) (prototype_object l), length-take k cs) in
     room_on h s (map (prototype_object l) (take k cs)) (length cs) 0 1 0 e r (omega (arith, n)) (omega (arith, prototype_cells l t (take k cs)))
 
-pub class_room : (l : LinkedFile) (h s : Heap) (cs : List HostClass) (k : ℕ) → IsLinkedFile l → k < length cs → s ≡ with_objects (map (class_object l) (take k cs)) h → HasRoomFor h (length cs) (length cs) → HasRoomFor s 1 1
+pub class_room : (l : LinkedFile) (h s : Heap) (cs : List HostClass) (k : ℕ) → IsLinkedFile l → k < length cs → s ≡ with_objects (map (host_class_object l) (take k cs)) h → HasRoomFor h (length cs) (length cs) → HasRoomFor s 1 1
 class_room l h s cs k t b e r =
-    let n : length (map (class_object l) (take k cs)) ≡ k = omega (arith, length-map (take k cs) (class_object l), length-take k cs) in
-    room_on h s (map (class_object l) (take k cs)) (length cs) (length cs) 1 1 e r (omega (arith, n)) (omega (arith, class_cells l t (take k cs), length-take k cs))
+    let n : length (map (host_class_object l) (take k cs)) ≡ k = omega (arith, length-map (take k cs) (host_class_object l), length-take k cs) in
+    room_on h s (map (host_class_object l) (take k cs)) (length cs) (length cs) 1 1 e r (omega (arith, n)) (omega (arith, class_cells l t (take k cs), length-take k cs))
 
 pub formula_room : (l : LinkedFile) (h s : Heap) (k n : ℕ) → IsLinkedFile l → k < n → s ≡ with_objects (formula_objects l k) h → HasRoomFor h n 0 → HasRoomFor s 1 0
 formula_room l h s k n t b e r =
@@ -149,8 +149,8 @@ last_slots h ob o e =
 pub last_changed : (h s new : Heap) (ob : Object) (f : Object → Object) (o : ℕ) → o ≡ length h.objects → s ≡ with_objects (ob ∷ []) h → new ≡ with_object f o s → new ≡ with_objects (f ob ∷ []) h
 last_changed h s new ob f o e p q = q ∙ (ap (with_object f o) p ∙ ap (λ obs. record h { objects = obs }) (change_last f h.objects ob o e))
 
-pub class_written : (l : LinkedFile) (h s new : Heap) (c : HostClass) (n o : ℕ) → o ≡ length h.objects → s ≡ with_objects (opened l (parts.HostClassObject c) (Some hosts.Class) (whats.HostClass c) ∷ []) h → n ≡ host_number c → new ≡ with_object (with_slot 0 (values.Obj (obj_id n))) o s → new ≡ with_objects (class_object l c ∷ []) h
-class_written l h s new c n o e p w q = last_changed h s new (opened l (parts.HostClassObject c) (Some hosts.Class) (whats.HostClass c)) (with_slot 0 (values.Obj (prototype_id c))) o e p (q ∙ ap (λ i. with_object (with_slot 0 (values.Obj (obj_id i))) o s) w)
+pub class_written : (l : LinkedFile) (h s new : Heap) (c : HostClass) (n o : ℕ) → o ≡ length h.objects → s ≡ with_objects (opening_object l (parts.HostClassObject c) (Some hosts.Class) (whats.HostClass c) ∷ []) h → n ≡ host_number c → new ≡ with_object (with_slot 0 (values.Obj (obj_id n))) o s → new ≡ with_objects (host_class_object l c ∷ []) h
+class_written l h s new c n o e p w q = last_changed h s new (opening_object l (parts.HostClassObject c) (Some hosts.Class) (whats.HostClass c)) (with_slot 0 (values.Obj (prototype_id c))) o e p (q ∙ ap (λ i. with_object (with_slot 0 (values.Obj (obj_id i))) o s) w)
 
 -- ---- the properties of the host object
 
@@ -308,13 +308,13 @@ built_more old mid new obs more n c m d b e p q = record {
 pub built_room : (old new : Heap) (obs : List Object) (n c x y m d : ℕ) → Built old new obs n c → HasRoomFor old x y → n + m ≤ x → c + d ≤ y → HasRoomFor new m d
 built_room old new obs n c x y m d b r p q = room_on old new obs x y m d b.heap r (omega (arith, b.size)) (omega (arith, b.cells))
 
-pub opening_made : (l : LinkedFile) (old mid new : Heap) (fs names : List (List ℕ)) (f scripts : ℕ) → old.objects ≡ [] → old.scopes ≡ [] → Built old mid (map (prototype_object l) host_classes ++ map (class_object l) host_classes ++ function_objects l f ++ host_object l names ∷ []) (30 + f) (29 + f) → new ≡ with_globals l scripts mid → f ≡ length fs → names ≡ property_names fs → scripts ≡ length l.file.scripts → new ≡ record old { objects = opening_objects l fs; scopes = opening_scopes l f }
+pub opening_made : (l : LinkedFile) (old mid new : Heap) (fs names : List (List ℕ)) (f scripts : ℕ) → old.objects ≡ [] → old.scopes ≡ [] → Built old mid (map (prototype_object l) host_classes ++ map (host_class_object l) host_classes ++ function_objects l f ++ host_object l names ∷ []) (30 + f) (29 + f) → new ≡ with_globals l scripts mid → f ≡ length fs → names ≡ property_names fs → scripts ≡ length l.file.scripts → new ≡ record old { objects = opening_objects l fs; scopes = opening_scopes l f }
 opening_made l old mid new fs names f scripts none nodes b q ef en es =
-    let obs = map (prototype_object l) host_classes ++ map (class_object l) host_classes ++ function_objects l f ++ host_object l names ∷ [] in
+    let obs = map (prototype_object l) host_classes ++ map (host_class_object l) host_classes ++ function_objects l f ++ host_object l names ∷ [] in
     let ids : ℕ → ℕ → List ScopeNode = λ o n. map (λ s. entry_of (o + s)) (range_with_len 0 n) in
     let gs : ℕ → List Object = λ n. map (global_object l) (range_with_len 0 n) in
     let put : List Object → List ScopeNode → Heap = λ xs ns. record old { objects = xs; scopes = ns } in
-    let full : ℕ → List (List ℕ) → List Object = λ n ns. map (prototype_object l) host_classes ++ map (class_object l) host_classes ++ function_objects l n ++ host_object l ns ∷ [] in
+    let full : ℕ → List (List ℕ) → List Object = λ n ns. map (prototype_object l) host_classes ++ map (host_class_object l) host_classes ++ function_objects l n ++ host_object l ns ∷ [] in
     q ∙ (ap (with_globals l scripts) b.heap
     ∙ (ap (λ xs. put ((xs ++ obs) ++ gs scripts) (old.scopes ++ ids (length (xs ++ obs)) scripts)) none
     ∙ (ap (λ ns. put (obs ++ gs scripts) (ns ++ ids (length obs) scripts)) nodes
@@ -340,38 +340,38 @@ pub opening_ledger : (l : LinkedFile) (fs : List (List ℕ)) (limits : Limits) �
 opening_ledger l fs limits t =
     let scripts = length l.file.scripts in
     let one = map (prototype_object l) host_classes in
-    let two = map (class_object l) host_classes in
+    let two = map (host_class_object l) host_classes in
     let three = function_objects l (length fs) in
     let four = host_object l (property_names fs) ∷ [] in
     let five = map (global_object l) (range_with_len 0 scripts) in
     let objects : length (opening_objects l fs) ≡ 30 + length fs + scripts =
     lengths_sum _ (length one) (length two) (length three) (length four) (length five) (length fs) scripts (joined_length one two three four five) refl refl (functions_count l (length fs)) refl (globals_count l scripts) in
-    let entries = length-map-range_with_len (λ (s : ℕ). entry_of (global_number (length fs) s)) 0 scripts in
+    let entries = length-map-range_with_len (λ (s : ℕ). entry_of (opening_global_number (length fs) s)) 0 scripts in
     let cells : all_cells (opening_objects l fs) + length (opening_scopes l (length fs)) ≡ 29 + length fs + scripts + global_slots l =
     cells_sum _ (all_cells one) (all_cells two) (all_cells three) (all_cells four) (all_cells five) _ (length fs) scripts (global_slots l) (joined_cells one two three four five) (prototype_cells l t host_classes) (class_cells l t host_classes) (function_cells l t (length fs)) (host_cells l t (property_names fs) ∙ names_length fs) (globals_cells l scripts) entries in
     let put : ℕ → ℕ → Limits = λ n m. record { objects = n; cells = m; text = 0; frames = 0; stack = 0 } in
     ap (λ n. put n (all_cells (opening_objects l fs) + length (opening_scopes l (length fs)))) objects ∙ ap (put (30 + length fs + scripts)) cells
 
 -- the room at the beginning
-pub opening_room : (l : LinkedFile) (h : Heap) (f : ℕ) → h.objects ≡ [] → h.scopes ≡ [] → IsWithin (opening_counts l f) h.limits → HasRoomFor h (30 + f + length l.file.scripts) (29 + f + length l.file.scripts + global_slots l)
+pub opening_room : (l : LinkedFile) (h : Heap) (f : ℕ) → h.objects ≡ [] → h.scopes ≡ [] → IsOpeningWithin (opening_counts l f) h.limits → HasRoomFor h (30 + f + length l.file.scripts) (29 + f + length l.file.scripts + global_slots l)
 opening_room l h f e n w = (omega (arith, w.0, ap length e), omega (arith, w.1, ap all_cells e, ap length n))
 
 -- the steps, one after the other
 pub opening_one : (l : LinkedFile) (old new : Heap) (cs : List HostClass) → IsLinkedFile l → cs ≡ host_classes → new ≡ with_objects (map (prototype_object l) cs) old → Built old new (map (prototype_object l) host_classes) 14 0
 opening_one l old new cs t w e = record { heap = e ∙ ap (λ xs. with_objects (map (prototype_object l) xs) old) w; size = refl; cells = prototype_cells l t host_classes }
 
-pub opening_two : (l : LinkedFile) (old mid new : Heap) (cs : List HostClass) → IsLinkedFile l → cs ≡ host_classes → Built old mid (map (prototype_object l) host_classes) 14 0 → new ≡ with_objects (map (class_object l) cs) mid → Built old new (map (prototype_object l) host_classes ++ map (class_object l) host_classes) 28 14
-opening_two l old mid new cs t w b e = built_more old mid new (map (prototype_object l) host_classes) (map (class_object l) host_classes) 14 0 14 14 b (e ∙ ap (λ xs. with_objects (map (class_object l) xs) mid) w) refl (class_cells l t host_classes)
+pub opening_two : (l : LinkedFile) (old mid new : Heap) (cs : List HostClass) → IsLinkedFile l → cs ≡ host_classes → Built old mid (map (prototype_object l) host_classes) 14 0 → new ≡ with_objects (map (host_class_object l) cs) mid → Built old new (map (prototype_object l) host_classes ++ map (host_class_object l) host_classes) 28 14
+opening_two l old mid new cs t w b e = built_more old mid new (map (prototype_object l) host_classes) (map (host_class_object l) host_classes) 14 0 14 14 b (e ∙ ap (λ xs. with_objects (map (host_class_object l) xs) mid) w) refl (class_cells l t host_classes)
 
-pub opening_three : (l : LinkedFile) (old mid new : Heap) (f : ℕ) → IsLinkedFile l → Built old mid (map (prototype_object l) host_classes ++ map (class_object l) host_classes) 28 14 → new ≡ with_objects (function_objects l f) mid → Built old new (map (prototype_object l) host_classes ++ map (class_object l) host_classes ++ function_objects l f) (28 + (f + 1)) (14 + 0)
-opening_three l old mid new f t b e = built_more old mid new (map (prototype_object l) host_classes ++ map (class_object l) host_classes) (function_objects l f) 28 14 (f + 1) 0 b e (functions_count l f) (function_cells l t f)
+pub opening_three : (l : LinkedFile) (old mid new : Heap) (f : ℕ) → IsLinkedFile l → Built old mid (map (prototype_object l) host_classes ++ map (host_class_object l) host_classes) 28 14 → new ≡ with_objects (function_objects l f) mid → Built old new (map (prototype_object l) host_classes ++ map (host_class_object l) host_classes ++ function_objects l f) (28 + (f + 1)) (14 + 0)
+opening_three l old mid new f t b e = built_more old mid new (map (prototype_object l) host_classes ++ map (host_class_object l) host_classes) (function_objects l f) 28 14 (f + 1) 0 b e (functions_count l f) (function_cells l t f)
 
 built_as : (old new : Heap) (obs : List Object) (n c m d : ℕ) → n ≡ m → c ≡ d → Built old new obs n c → Built old new obs m d
 built_as old new obs n c m d p q b = record { heap = b.heap; size = b.size ∙ p; cells = b.cells ∙ q }
 
-pub opening_four : (l : LinkedFile) (old mid new : Heap) (names : List (List ℕ)) (f : ℕ) → IsLinkedFile l → length names ≡ 15 + f → Built old mid (map (prototype_object l) host_classes ++ map (class_object l) host_classes ++ function_objects l f) (28 + (f + 1)) (14 + 0) → new ≡ with_objects (host_object l names ∷ []) mid → Built old new (map (prototype_object l) host_classes ++ map (class_object l) host_classes ++ function_objects l f ++ host_object l names ∷ []) (30 + f) (29 + f)
+pub opening_four : (l : LinkedFile) (old mid new : Heap) (names : List (List ℕ)) (f : ℕ) → IsLinkedFile l → length names ≡ 15 + f → Built old mid (map (prototype_object l) host_classes ++ map (host_class_object l) host_classes ++ function_objects l f) (28 + (f + 1)) (14 + 0) → new ≡ with_objects (host_object l names ∷ []) mid → Built old new (map (prototype_object l) host_classes ++ map (host_class_object l) host_classes ++ function_objects l f ++ host_object l names ∷ []) (30 + f) (29 + f)
 opening_four l old mid new names f t n b e =
-    let obs = map (prototype_object l) host_classes ++ map (class_object l) host_classes ++ function_objects l f in
+    let obs = map (prototype_object l) host_classes ++ map (host_class_object l) host_classes ++ function_objects l f in
     let p : (28 + (f + 1)) + 1 ≡ 30 + f = omega arith in
     let q : (14 + 0) + length names ≡ 29 + f = omega (arith, n) in
     built_as old new (obs ++ host_object l names ∷ []) ((28 + (f + 1)) + 1) ((14 + 0) + length names) (30 + f) (29 + f) p q
@@ -379,7 +379,7 @@ opening_four l old mid new names f t n b e =
 
 -- ---- what single calls make
 
-pub made_opened : (l : LinkedFile) (h new : Heap) (p : Part) (parent : Option HostClass) (what : What) (vs : List Value) (y : LayoutId) (d : Option ObjId) → new ≡ with_made vs y.0 d what h → vs ≡ start_values l y.0 → y ≡ layout_of l p → d ≡ option_map prototype_id parent → new ≡ with_objects (opened l p parent what ∷ []) h
+pub made_opened : (l : LinkedFile) (h new : Heap) (p : Part) (parent : Option HostClass) (what : What) (vs : List Value) (y : LayoutId) (d : Option ObjId) → new ≡ with_made vs y.0 d what h → vs ≡ start_values l y.0 → y ≡ layout_of l p → d ≡ option_map prototype_id parent → new ≡ with_objects (opening_object l p parent what ∷ []) h
 made_opened l h new p parent what vs y d e v w q =
     e ∙ (ap (λ ws. with_made ws y.0 d what h) v
     ∙ (ap (λ (z : LayoutId). with_made (start_values l z.0) z.0 d what h) w

@@ -10,13 +10,13 @@ use Rattle.abc_heap_values.specs.declared.values.Value.TheVariants as values
 use Rattle.abc_base_graphs.specs.Ways.{way, before}
 use Rattle.abc_heap_store.specs.Heap.{Heap, elements_of, object_at, properties_of}
 use Rattle.abc_heap_store.specs.What.{is_array}
-use Rattle.abc_link_names.specs.Linked.{LinkedFile, base}
-use Rattle.abc_objects.specs.Candidates.{Candidate, OfElement, OfLength, OfProperty, OfTrait, candidates_on, elements, elements_from, fits, found, found_as, holder_of, layout_at, own_things, properties, property_at, things_along, traits_after, traits_on, where_public}
-use Rattle.abc_objects.specs.Laws.{FindsWhatIsThere, IsThere}
+use Rattle.abc_link_names.specs.Linked.{LinkedFile, base_layout}
+use Rattle.abc_objects.specs.Candidates.{Candidate, OfElement, OfLength, OfProperty, OfTrait, candidates_on, element_candidates, elements_from, fits, found_candidate, found_as, holder_of, layout_at, own_things, property_candidates, property_at, things_along, traits_after, traits_on, where_public}
+use Rattle.abc_objects.specs.Laws.{FindsWhatIsThere, IsFoundPresent}
 use Rattle.abc_objects.specs.Objects.{delegate_at}
 use Rattle.abc_objects.specs.Results.{skip_for}
 use Rattle.abc_objects.specs.Searches.{found_on}
-use Rattle.abc_objects.specs.Spaces.{holds_public}
+use Rattle.abc_objects.specs.Spaces.{name_holds_public}
 use Rattle.abc_objects.specs.Traits.{Trait, own}
 use Rattle.abc_objects.specs.declared.found.Found.TheVariants as founds
 use Rattle.abc_objects.specs.declared.name.Name.{Name}
@@ -76,7 +76,7 @@ after_own l h passed [] = tt
 after_own l h passed (x ∷ xs) = each_append (IsOwn h) (map (OfTrait x (passed ++ x ∷ [])) (own l x)) (traits_after l (passed ++ x ∷ []) xs) (traits_own h x (passed ++ x ∷ []) (own l x)) (after_own l h (passed ++ x ∷ []) xs)
 
 traits_on_own : (l : LinkedFile) (h : Heap) (v : Value) → Each (IsOwn h) (traits_on l h v)
-traits_on_own l h (values.Obj o) = after_own l h (before (layout_at h o.0) (way (base l) (Some (layout_at h o.0)))) (way (base l) (Some (layout_at h o.0)))
+traits_on_own l h (values.Obj o) = after_own l h (before (layout_at h o.0) (way (base_layout l) (Some (layout_at h o.0)))) (way (base_layout l) (Some (layout_at h o.0)))
 traits_on_own l h values.Undefined = tt
 traits_on_own l h values.Null = tt
 traits_on_own l h (values.Num n) = tt
@@ -90,7 +90,7 @@ elements_own h o (v ∷ vs) k f =
     let here : k + 0 ≡ k = omega arith in
     ((v, subst (λ j. slice_get (elements_of h.objects o) j ≡ Some v) here (f 0 v refl)), elements_own h o vs (k + 1) (λ i y e. let same : k + suc i ≡ k + 1 + i = omega arith in subst (λ j. slice_get (elements_of h.objects o) j ≡ Some y) same (f (suc i) y e)))
 
-array_own : (h : Heap) (o : ℕ) → Each (IsOwn h) (elements o (object_at h.objects o))
+array_own : (h : Heap) (o : ℕ) → Each (IsOwn h) (element_candidates o (object_at h.objects o))
 array_own h o = go (is_array (object_at h.objects o).what) refl
   where
     zero_first : (i : ℕ) (x : Value) → slice_get (elements_of h.objects o) i ≡ Some x → slice_get (elements_of h.objects o) (0 + i) ≡ Some x
@@ -104,20 +104,20 @@ property_own : (h : Heap) (o : ℕ) (p : Option (Span × Value)) → StandsIn (p
 property_own h o None s = tt
 property_own h o (Some p) s = (s, tt)
 
-properties_own : (h : Heap) (o : ℕ) → Each (IsOwn h) (properties o (object_at h.objects o))
+properties_own : (h : Heap) (o : ℕ) → Each (IsOwn h) (property_candidates o (object_at h.objects o))
 properties_own h o =
     let ps = properties_of h.objects o in
     let stand = each_stands ps ps 0 (λ i x e. let same : i ≡ 0 + i = omega arith in subst (λ j. slice_get ps j ≡ Some x) same e) in
     each_flat (StandsIn ps) (IsOwn h) (property_at o) (reverse ps) (each_reverse (StandsIn ps) ps stand) (property_own h o)
 
 things_own : (h : Heap) (o : ℕ) → Each (IsOwn h) (own_things h o)
-things_own h o = each_append (IsOwn h) (elements o (object_at h.objects o)) (properties o (object_at h.objects o)) (array_own h o) (properties_own h o)
+things_own h o = each_append (IsOwn h) (element_candidates o (object_at h.objects o)) (property_candidates o (object_at h.objects o)) (array_own h o) (properties_own h o)
 
 along_own : (h : Heap) (at : Option ℕ) → Each (IsOwn h) (things_along h at)
 along_own h at = each_flat (λ o. Unit {0}) (IsOwn h) (own_things h) (way (delegate_at h) at) (each_unit (way (delegate_at h) at)) (λ o u. things_own h o)
 
 candidates_own : (l : LinkedFile) (h : Heap) (n : Name) (v : Value) → Each (IsOwn h) (candidates_on l h n v)
-candidates_own l h n v = each_append (IsOwn h) (traits_on l h v) (where_public l n (things_along h (holder_of h v))) (traits_on_own l h v) (go (holds_public l n.spaces))
+candidates_own l h n v = each_append (IsOwn h) (traits_on l h v) (where_public l n (things_along h (holder_of h v))) (traits_on_own l h v) (go (name_holds_public l n.spaces))
   where
     go : (b : Bool) → Each (IsOwn h) (cond b (things_along h (holder_of h v)) [])
     go true = along_own h (holder_of h v)
@@ -125,19 +125,19 @@ candidates_own l h n v = each_append (IsOwn h) (traits_on l h v) (where_public l
 
 -- ---- what is found
 
-member_there : (l : LinkedFile) (h : Heap) (m : Member) → IsThere h (found_as l m)
+member_there : (l : LinkedFile) (h : Heap) (m : Member) → IsFoundPresent h (found_as l m)
 member_there l h (members.Slot slot constant) = tt
 member_there l h (members.Method m) = tt
 member_there l h (members.Getter m) = tt
 member_there l h (members.Setter m) = tt
 
-candidate_there : (l : LinkedFile) (h : Heap) (c : Candidate) → IsOwn h c → IsThere h (found l c)
+candidate_there : (l : LinkedFile) (h : Heap) (c : Candidate) → IsOwn h c → IsFoundPresent h (found_candidate l c)
 candidate_there l h (OfTrait x passed t) own = member_there l h t.declared.member
 candidate_there l h (OfLength o) own = own
 candidate_there l h (OfElement o k) own = own
 candidate_there l h (OfProperty o n x) own = (own.0, n, own.1)
 
-none_there : (h : Heap) (b : Bool) → IsThere h (cond b founds.WrongSide founds.Missing)
+none_there : (h : Heap) (b : Bool) → IsFoundPresent h (cond b founds.WrongSide founds.Missing)
 none_there h true = tt
 none_there h false = tt
 
@@ -146,6 +146,6 @@ unfolding found_on
 finds_what_is_there l h v n want = elim (answers_the_first l h n (skip_for want) (candidates_on l h n v)) [
   | inl hit ↦
       let own = each_within (IsOwn h) hit.1.before hit.1.after hit.0 (subst (λ cs. Each (IsOwn h) cs) hit.1.parts (candidates_own l h n v)) in
-      subst (λ f. IsThere h f) (sym hit.2) (candidate_there l h hit.0 own)
-  | inr miss ↦ subst (λ f. IsThere h f) (sym miss.1) (none_there h (list_any (fits l h n) (candidates_on l h n v)))
+      subst (λ f. IsFoundPresent h f) (sym hit.2) (candidate_there l h hit.0 own)
+  | inr miss ↦ subst (λ f. IsFoundPresent h f) (sym miss.1) (none_there h (list_any (fits l h n) (candidates_on l h n v)))
 ]

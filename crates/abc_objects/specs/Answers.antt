@@ -7,8 +7,8 @@ use Rattle.abc_heap_values.specs.declared.values.ObjId.{ObjId}
 use Rattle.abc_heap_values.specs.declared.values.Span.{Span}
 use Rattle.abc_heap_values.specs.declared.values.Value.{Value}
 use Rattle.abc_heap_store.specs.Changes.{IsClassMade, with_object}
-use Rattle.abc_heap_store.specs.Heap.{Fits, Heap, IsFull, IsFullOf, cells_used}
-use Rattle.abc_heap_store.specs.Properties.{cells_to_put, place_in, with_put}
+use Rattle.abc_heap_store.specs.Heap.{FitsCells, Heap, IsFull, IsFullOf, cells_used}
+use Rattle.abc_heap_store.specs.Properties.{cells_to_put, place_of_property, with_put}
 use Rattle.abc_heap_store.specs.Texts.{text_of}
 use Rattle.abc_heap_store.specs.declared.records.Full.{Full}
 use Rattle.abc_heap_store.specs.declared.records.Limit.TheVariants.{Cells}
@@ -31,7 +31,7 @@ MakesClass l class home base_prototype delegate saved scopes old new result =
 abbrev pub PutsProperty : {A : Type 0} → List (List ℕ) → ObjId → Span → Value → (old new : Heap) → Result A Full → Type 0
 PutsProperty strings o name v old new result =
     let text = text_of strings old in
-    let need = cells_to_put (place_in strings old o.0 name) in
+    let need = cells_to_put (place_of_property strings old o.0 name) in
     MatchResult result
-    (λ _. Fits old new need (with_object (with_put text (text name) name v) o.0 old))
+    (λ _. FitsCells old new need (with_object (with_put text (text name) name v) o.0 old))
     (λ e. IsFull old new (cells_used old) need old.limits.cells Cells e)

@@ -4,7 +4,7 @@ use Rattle.abc_heap_store.specs.Heap.{Heap, Object, object_at}
 use Rattle.abc_heap_store.specs.declared.records.ScopeNode.{ScopeNode}
 
 -- an object keeps its layout, its delegate and what it is
-pub record Keeps (old new : Object) : Type 0 where
+pub record ObjectKeeps (old new : Object) : Type 0 where
   pub layout : new.layout ≡ old.layout
   pub delegate : new.delegate ≡ old.delegate
   pub what : new.what ≡ old.what
@@ -12,7 +12,7 @@ pub record Keeps (old new : Object) : Type 0 where
 -- each object is still there and keeps what it was made as; scopes and made texts are only added at the end;
 -- fixed texts and formulas stay
 pub record Grows (old new : Heap) : Type 0 where
-  pub objects : (o : ℕ) → o < length old.objects → (o < length new.objects) × Keeps (object_at old.objects o) (object_at new.objects o)
+  pub objects : (o : ℕ) → o < length old.objects → (o < length new.objects) × ObjectKeeps (object_at old.objects o) (object_at new.objects o)
   pub scopes : (more : List ScopeNode) × (new.scopes ≡ old.scopes ++ more)
   pub fixed : new.fixed ≡ old.fixed
   pub made : (more : List ℕ) × (new.made ≡ old.made ++ more)

@@ -9,7 +9,7 @@ use Rattle.abc_heap_values.specs.declared.values.ObjId.{ObjId}
 use Rattle.abc_heap_values.specs.declared.values.Span.{Span}
 use Rattle.abc_heap_values.specs.declared.values.Value.{Value}
 use Rattle.abc_heap_values.specs.declared.values.Value.TheVariants as values
-use Rattle.abc_heap_store.specs.Changes.{bare, with_more_slots, with_slot}
+use Rattle.abc_heap_store.specs.Changes.{bare_object, with_more_slots, with_slot}
 use Rattle.abc_heap_store.specs.Heap.{Heap, Object, obj_id}
 use Rattle.abc_heap_store.specs.declared.records.Limit.{Limit}
 use Rattle.abc_heap_store.specs.declared.records.Limit.TheVariants.{Objects, Cells, Text, Frames, Stack}
@@ -51,18 +51,18 @@ abbrev pub prototype_id : HostClass → ObjId
 prototype_id c = obj_id (host_number c)
 
 -- the number of the host object, where there are so many formulas
-abbrev pub host_object_number : ℕ → ℕ
-host_object_number formulas = 29 + formulas
+abbrev pub opening_host_object : ℕ → ℕ
+opening_host_object formulas = 29 + formulas
 
 -- the number of a script's global object, where there are so many formulas
-abbrev pub global_number : ℕ → ℕ → ℕ
-global_number formulas script = 30 + formulas + script
+abbrev pub opening_global_number : ℕ → ℕ → ℕ
+opening_global_number formulas script = 30 + formulas + script
 
 -- ---- objects
 
 -- an object of a part, which has the prototype of a class of the host as its delegate
-abbrev pub opened : LinkedFile → Part → Option HostClass → What → Object
-opened l part parent what = with_more_slots (start_values l (layout_of l part).0) (bare (layout_of l part).0 (option_map prototype_id parent) what)
+abbrev pub opening_object : LinkedFile → Part → Option HostClass → What → Object
+opening_object l part parent what = with_more_slots (start_values l (layout_of l part).0) (bare_object (layout_of l part).0 (option_map prototype_id parent) what)
 
 -- the class whose prototype is the delegate of a class's prototype
 abbrev pub above_host : HostClass → Option HostClass
@@ -73,14 +73,14 @@ above_host hosts.ArgumentError = Some hosts.Error
 above_host other = Some hosts.Object
 
 abbrev pub prototype_object : LinkedFile → HostClass → Object
-prototype_object l c = opened l (parts.Host hosts.Object) (above_host c) whats.Plain
+prototype_object l c = opening_object l (parts.Host hosts.Object) (above_host c) whats.Plain
 
 -- a class object of the host, whose first slot holds the prototype
-abbrev pub class_object : LinkedFile → HostClass → Object
-class_object l c = with_slot 0 (values.Obj (prototype_id c)) (opened l (parts.HostClassObject c) (Some hosts.Class) (whats.HostClass c))
+abbrev pub host_class_object : LinkedFile → HostClass → Object
+host_class_object l c = with_slot 0 (values.Obj (prototype_id c)) (opening_object l (parts.HostClassObject c) (Some hosts.Class) (whats.HostClass c))
 
 abbrev pub function_object : LinkedFile → What → Object
-function_object l what = opened l (parts.Host hosts.Function) (Some hosts.Function) what
+function_object l what = opening_object l (parts.Host hosts.Function) (Some hosts.Function) what
 
 abbrev pub formula_objects : LinkedFile → ℕ → List Object
 formula_objects l formulas = map (λ n. function_object l (whats.Formula n)) (range_with_len 0 formulas)
@@ -97,12 +97,12 @@ host_properties o (s ∷ ss) = Some (s, values.Obj (obj_id o)) ∷ host_properti
 -- its properties are the class objects, trace and the formulas, which stand from number 14 on
 abbrev pub host_object : LinkedFile → List (List ℕ) → Object
 host_object l names =
-    let plain = opened l (parts.Host hosts.Object) (Some hosts.Object) whats.HostObject in
+    let plain = opening_object l (parts.Host hosts.Object) (Some hosts.Object) whats.HostObject in
     record plain { properties = host_properties 14 (spans_from (length fixed_bytes) names) }
 
 -- the global object of script s, as it is at opening
 abbrev pub global_object : LinkedFile → ℕ → Object
-global_object l s = opened l (parts.Global s) (Some hosts.Object) (whats.Global s)
+global_object l s = opening_object l (parts.Global s) (Some hosts.Object) (whats.Global s)
 
 -- the entry of an object alone
 abbrev pub entry_of : ℕ → ScopeNode
@@ -113,14 +113,14 @@ entry_of o = record { entry = record { object = obj_id o; with_flag = false }; p
 abbrev pub opening_objects : LinkedFile → List (List ℕ) → List Object
 opening_objects l formulas =
     map (prototype_object l) host_classes
-    ++ map (class_object l) host_classes
+    ++ map (host_class_object l) host_classes
     ++ function_objects l (length formulas)
     ++ host_object l (property_names formulas) ∷ []
     ++ map (global_object l) (range_with_len 0 (length l.file.scripts))
 
 -- one entry for each global object
 abbrev pub opening_scopes : LinkedFile → ℕ → List ScopeNode
-opening_scopes l formulas = map (λ s. entry_of (global_number formulas s)) (range_with_len 0 (length l.file.scripts))
+opening_scopes l formulas = map (λ s. entry_of (opening_global_number formulas s)) (range_with_len 0 (length l.file.scripts))
 
 abbrev pub opening : LinkedFile → List (List ℕ) → Limits → Heap
 opening l formulas limits = record {
@@ -160,8 +160,8 @@ opening_counts l formulas = record {
 }
 
 -- what there is at opening is within the limits
-abbrev pub IsWithin : Limits → Limits → Type 0
-IsWithin counts limits = (counts.objects ≤ limits.objects) × (counts.cells ≤ limits.cells)
+abbrev pub IsOpeningWithin : Limits → Limits → Type 0
+IsOpeningWithin counts limits = (counts.objects ≤ limits.objects) × (counts.cells ≤ limits.cells)
 
 -- it passes a limit: the objects are tested first
 abbrev pub PassesAtOpening : Limits → Limits → Limit → Type 0
@@ -177,8 +177,8 @@ IsUnopened counts limits errors.NoMemory = Unit {0}
 IsUnopened counts limits (errors.TooSmall which) = PassesAtOpening counts limits which
 
 -- the heap is the opening one of a linked file, of formulas with these names and of limits, and it is within the limits
-abbrev pub IsOpened : LinkedFile → List (List ℕ) → Limits → Heap → Type 0
-IsOpened l formulas limits h = IsWithin (opening_counts l (length formulas)) limits × (h ≡ opening l formulas limits)
+abbrev pub IsHeapOpened : LinkedFile → List (List ℕ) → Limits → Heap → Type 0
+IsHeapOpened l formulas limits h = IsOpeningWithin (opening_counts l (length formulas)) limits × (h ≡ opening l formulas limits)
 
 -- ---- steps of the opening
 

@@ -14,11 +14,11 @@ use Rattle.abc_objects.specs.declared.traits.TraitSpace.{TraitSpace}
 use Rattle.abc_objects.specs.declared.traits.TraitSpace.TheVariants as spaces
 
 -- a name holds the public namespace
-abbrev pub holds_public : LinkedFile → Spaces → Bool
-holds_public l forms.Any = true
-holds_public l forms.Public = true
-holds_public l (forms.One a) = is_public l.file a
-holds_public l (forms.Set k) = list_any (is_public l.file) (set l.file k)
+abbrev pub name_holds_public : LinkedFile → Spaces → Bool
+name_holds_public l forms.Any = true
+name_holds_public l forms.Public = true
+name_holds_public l (forms.One a) = is_public l.file a
+name_holds_public l (forms.Set k) = list_any (is_public l.file) (set l.file k)
 
 -- one of the namespaces of a name is equal to a namespace of the pool
 abbrev pub holds_pooled : LinkedFile → Spaces → ℕ → Bool
@@ -28,9 +28,9 @@ holds_pooled l (forms.One a) s = same_space l.file s a
 holds_pooled l (forms.Set k) s = list_any (same_space l.file s) (set l.file k)
 
 -- a name holds the namespace of a trait
-abbrev pub holds : LinkedFile → Spaces → TraitSpace → Bool
-holds l n spaces.Public = holds_public l n
-holds l n (spaces.Pool s) = holds_pooled l n s
+abbrev pub holds_trait_space : LinkedFile → Spaces → TraitSpace → Bool
+holds_trait_space l n spaces.Public = name_holds_public l n
+holds_trait_space l n (spaces.Pool s) = holds_pooled l n s
 
 -- ---- protected namespaces
 

@@ -12,7 +12,7 @@ use Rattle.abc_heap_store.specs.declared.records.ScopeNode.{ScopeNode}
 use Rattle.abc_heap_store.specs.declared.store.ClassParts.{ClassParts}
 use Rattle.abc_heap_store.specs.declared.records.What.{What}
 use Rattle.abc_heap_store.specs.declared.records.What.TheVariants as whats
-use Rattle.abc_heap_store.specs.Heap.{Heap, Object, obj_id, object_at, slots_of as slots_of_object}
+use Rattle.abc_heap_store.specs.Heap.{Heap, Object, obj_id, object_at, slots_of_object}
 use Rattle.abc_heap_values.specs.declared.values.Value.TheVariants as values
 use Rattle.abc_heap_store.specs.Texts.{IsText}
 use Rattle.abc_heap_store.specs.What.{is_array}
@@ -21,7 +21,7 @@ use Rattle.abc_link_names.specs.Places.{host_number}
 use Rattle.abc_link_names.specs.Slots.{slots_of}
 use Rattle.abc_link_names.specs.declared.part.Part.TheVariants as parts
 use Rattle.abc_objects.specs.Fixed.{fixed_bytes}
-use Rattle.abc_objects.specs.Growing.{Keeps}
+use Rattle.abc_objects.specs.Growing.{ObjectKeeps}
 use Rattle.abc_objects.specs.Opening.{opening_objects, opening_scopes}
 use Rattle.abc_objects.specs.Starts.{StartsExist}
 use Rattle.abc_objects.specs.Values.{Exists, IsObject}
@@ -68,12 +68,12 @@ IsProperty l h None = Unit {0}
 IsProperty l h (Some p) = IsText l.file.strings h p.0 × Exists l h p.1
 
 -- the elements of a list, one by one
-abbrev pub Each : {X : Type 0} → (X → Type 0) → List X → Type 0
-Each {X = X} P xs = (k : ℕ) (x : X) → slice_get xs k ≡ Some x → P x
+abbrev pub EachAt : {X : Type 0} → (X → Type 0) → List X → Type 0
+EachAt {X = X} P xs = (k : ℕ) (x : X) → slice_get xs k ≡ Some x → P x
 
 -- the entries of a scope stack are objects
 abbrev pub AreEntries : Heap → List ScopeEntry → Type 0
-AreEntries h es = Each (λ (e : ScopeEntry). IsObject h e.object) es
+AreEntries h es = EachAt (λ (e : ScopeEntry). IsObject h e.object) es
 
 -- the layout of a host class's instances
 abbrev pub host_layout : LinkedFile → HostClass → ℕ
@@ -100,9 +100,9 @@ pub record ObjectStands (l : LinkedFile) (h : Heap) (o : ℕ) (ob : Object) : Ty
   pub array : is_array ob.what ≡ true → ob.layout ≡ array_layout l
   pub no_array : is_array ob.what ≡ false → ob.layout ≢ array_layout l
   pub elements : is_array ob.what ≡ false → ob.elements ≡ []
-  pub slot_values : Each (Exists l h) ob.slots
-  pub properties : Each (IsProperty l h) ob.properties
-  pub element_values : Each (Exists l h) ob.elements
+  pub slot_values : EachAt (Exists l h) ob.slots
+  pub properties : EachAt (IsProperty l h) ob.properties
+  pub element_values : EachAt (Exists l h) ob.elements
 
 -- scope number s
 pub record ScopeStands (h : Heap) (s : ℕ) (n : ScopeNode) : Type 0 where
@@ -126,13 +126,13 @@ abbrev pub HasPrototypes : Heap → Type 0
 HasPrototypes h = (c : HostClass) → 0 < length (slots_of_object h.objects (host_class_number c))
 
 -- the object that a class object's prototype slot holds, if it is one
-abbrev pub object_in : Option Value → Option ObjId
-object_in (Some (values.Obj o)) = Some o
-object_in other = None
+abbrev pub object_if_any : Option Value → Option ObjId
+object_if_any (Some (values.Obj o)) = Some o
+object_if_any other = None
 
 -- the prototype of the class whose class object is object o: what its first slot holds, if that is an object
 abbrev pub prototype_of : Heap → ℕ → Option ObjId
-prototype_of h o = object_in (slice_get (slots_of_object h.objects o) 0)
+prototype_of h o = object_if_any (slice_get (slots_of_object h.objects o) 0)
 
 -- the prototype of arrays
 abbrev pub array_prototype : Heap → Option ObjId
@@ -140,7 +140,7 @@ array_prototype h = prototype_of h (host_class_number hosts.Array)
 
 -- the object is there, and has the layout, the delegate and what it is of the one that was made
 abbrev pub IsMadeAs : Heap → ObjId → Object → Type 0
-IsMadeAs h o made = IsObject h o × Keeps made (object_at h.objects o.0)
+IsMadeAs h o made = IsObject h o × ObjectKeeps made (object_at h.objects o.0)
 
 -- the objects of the opening keep what they were made as, and its scopes stand first
 pub record HasOpening (l : LinkedFile) (h : Heap) : Type 0 where

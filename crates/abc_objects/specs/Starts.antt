@@ -56,6 +56,6 @@ abbrev pub IsShortStart : List (List ℕ) → Start → Type 0
 IsShortStart pool x = (i : ℕ) → x ≡ starts.Text i → IsShort pool i
 
 -- the slots can be counted, and their strings fit spans
-pub record CanStart (pool : List (List ℕ)) (slots : List SlotInfo) : Type 0 where
+pub record CanStartSlots (pool : List (List ℕ)) (slots : List SlotInfo) : Type 0 where
   pub few : length slots < 2 ^ 32
   pub short : (k : ℕ) (s : SlotInfo) → slice_get slots k ≡ Some s → IsShortStart pool s.start

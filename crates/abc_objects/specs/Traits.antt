@@ -7,7 +7,7 @@ use Rattle.abc_link_names.specs.declared.named.DefiniteName.{DefiniteName}
 use Rattle.abc_file_types.specs.declared.traits.TraitBody.{TraitBody}
 use Rattle.abc_file_types.specs.declared.traits.TraitBody.TheVariants as bodies
 use Rattle.abc_file_types.specs.declared.traits.TraitInfo.{TraitInfo}
-use Rattle.abc_link_names.specs.Linked.{LinkedFile, base}
+use Rattle.abc_link_names.specs.Linked.{LinkedFile, base_layout}
 use Rattle.abc_link_names.specs.Numbering.{part_at}
 use Rattle.abc_link_names.specs.Slots.{handler_at, slots_in, slots_of, traits_of}
 use Rattle.abc_link_names.specs.declared.part.Part.{Part}
@@ -60,4 +60,4 @@ own_traits_of l slot (parts.Catch b e) = caught_trait l slot (handler_at l.file 
 own_traits_of l slot p = traits_from l slot (traits_of l.file p)
 
 abbrev pub own : LinkedFile → ℕ → List Trait
-own l x = own_traits_of l (slots_under l (base l x)) (part_at l.parts x)
+own l x = own_traits_of l (slots_under l (base_layout l x)) (part_at l.parts x)

@@ -35,20 +35,20 @@ Exists l h (values.Space n) = IsSpace l n
 Exists l h (values.Obj o) = IsObject h o
 
 -- the values of each kind: Text, Space and Obj hold null too, and Obj the objects of its layout and of those below
-abbrev pub Holds : LinkedFile → Heap → Kind → Value → Type 0
-Holds l h kinds.Any v = Unit {0}
-Holds l h kinds.Undef values.Undefined = Unit {0}
-Holds l h kinds.Null values.Null = Unit {0}
-Holds l h kinds.Num (values.Num n) = Unit {0}
-Holds l h kinds.Bool (values.Bool b) = Unit {0}
-Holds l h kinds.Text values.Null = Unit {0}
-Holds l h kinds.Text (values.Text s) = Unit {0}
-Holds l h kinds.Space values.Null = Unit {0}
-Holds l h kinds.Space (values.Space n) = Unit {0}
-Holds l h (kinds.Obj x) values.Null = Unit {0}
-Holds l h (kinds.Obj x) (values.Obj o) = IsObject h o × IsBelow l (object_at h.objects o.0).layout x.0
-Holds l h kind v = ⊥
+abbrev pub IsValueOf : LinkedFile → Heap → Kind → Value → Type 0
+IsValueOf l h kinds.Any v = Unit {0}
+IsValueOf l h kinds.Undef values.Undefined = Unit {0}
+IsValueOf l h kinds.Null values.Null = Unit {0}
+IsValueOf l h kinds.Num (values.Num n) = Unit {0}
+IsValueOf l h kinds.Bool (values.Bool b) = Unit {0}
+IsValueOf l h kinds.Text values.Null = Unit {0}
+IsValueOf l h kinds.Text (values.Text s) = Unit {0}
+IsValueOf l h kinds.Space values.Null = Unit {0}
+IsValueOf l h kinds.Space (values.Space n) = Unit {0}
+IsValueOf l h (kinds.Obj x) values.Null = Unit {0}
+IsValueOf l h (kinds.Obj x) (values.Obj o) = IsObject h o × IsBelow l (object_at h.objects o.0).layout x.0
+IsValueOf l h kind v = ⊥
 
 -- the kind of a slot of an object, by its type in the object's layout
-abbrev pub slot_kind : LinkedFile → Heap → ObjId → ℕ → Kind
-slot_kind l h o k = kind_of_type l (get_or (slots_of l (object_at h.objects o.0).layout) k (record { ty = types.Any; constant = false; start = starts.Undefined })).ty
+abbrev pub slot_kind_of_object : LinkedFile → Heap → ObjId → ℕ → Kind
+slot_kind_of_object l h o k = kind_of_type l (get_or (slots_of l (object_at h.objects o.0).layout) k (record { ty = types.Any; constant = false; start = starts.Undefined })).ty

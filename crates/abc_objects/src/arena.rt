@@ -3,19 +3,19 @@ ghost use Rattle.abc_heap_values.specs.declared.values.Value.TheVariants.{Undefi
 ghost use Rattle.std.specs.Fmt.{signed_decimal};
 ghost use Rattle.abc_base.specs.Ranges.{IsNumber};
 ghost use Rattle.abc_heap_store.specs.What.{is_array};
-ghost use Rattle.abc_heap_store.specs.Heap.{object_at, slots_of, properties_of, elements_of, cells_used, ledger, IsFull, IsFullOf, Fits, PassesFrames};
+ghost use Rattle.abc_heap_store.specs.Heap.{object_at, slots_of_object, properties_of, elements_of, cells_used, ledger, IsFull, IsFullOf, FitsCells, PassesFrames};
 ghost use Rattle.abc_heap_store.specs.Texts.{IsText, text_of, IsTextMade};
-ghost use Rattle.abc_heap_store.specs.Properties.{place_in, property_in_heap, with_delete, the_name, at_position, place_after, walked_value, walked_next};
+ghost use Rattle.abc_heap_store.specs.Properties.{place_of_property, property_in_heap, with_delete, the_name, at_position, place_after, walked_value, walked_next};
 ghost use Rattle.abc_heap_store.specs.Changes.{with_object, with_slot, with_element, with_new_element, IsMade, IsFunctionMade, IsArrayMade};
 ghost use Rattle.abc_heap_store.specs.declared.records.Limit.TheVariants.{Cells, Text};
 ghost use Rattle.abc_base.specs.declared.names.HostClass.TheVariants.{Function, Object};
 ghost use Rattle.abc_link_names.specs.Linked.{LinkedFile, IsLayout};
 ghost use Rattle.abc_objects.specs.Answers.{MakesClass, PutsProperty};
 ghost use Rattle.abc_objects.specs.Fixed.{fixed_span, fixed_name};
-ghost use Rattle.abc_objects.specs.Opening.{IsOpened, IsUnopened, class_object as class_object_of, entry_of, formula_names, global_number, global_object, host_object as host_object_of, host_object_number, opening_counts, property_names};
-ghost use Rattle.abc_objects.specs.Stands.{StandsOver, IsMadeAs, IsObjectOrNone, IsScope, NamesParts, IsMadeAlone, AreEntries, Each, array_layout, array_prototype, host_class_number, host_layout, prototype_of};
+ghost use Rattle.abc_objects.specs.Opening.{IsHeapOpened, IsUnopened, host_class_object as class_object_of, entry_of, formula_names, opening_global_number, global_object, host_object as host_object_of, opening_host_object, opening_counts, property_names};
+ghost use Rattle.abc_objects.specs.Stands.{StandsOver, IsMadeAs, IsObjectOrNone, IsScope, NamesParts, IsMadeAlone, AreEntries, EachAt, array_layout, array_prototype, host_class_number, host_layout, prototype_of};
 ghost use Rattle.abc_objects.specs.Starts.{start_values};
-ghost use Rattle.abc_objects.specs.Values.{Exists, Holds, IsObject, slot_kind};
+ghost use Rattle.abc_objects.specs.Values.{Exists, IsValueOf, IsObject, slot_kind_of_object};
 
 use crate::error::OpenError;
 use crate::fixed::FixedText;
@@ -54,7 +54,9 @@ impl Arena {
         limits: &Limits,
         host: &H,
     ) -> Result<Arena, OpenError>
-        ensures opened { MatchResult result (IsOpened l.now (formula_names (H.formulas host.now)) limits.now) (IsUnopened (opening_counts l.now (length (H.formulas host.now))) limits.now) }
+        ensures opened { MatchResult result
+            (IsHeapOpened l.now (formula_names (H.formulas host.now)) limits.now)
+            (IsUnopened (opening_counts l.now (length (H.formulas host.now))) limits.now) }
         ensures counts { IfOk result (λ a. ledger a ≡ opening_counts l.now (length (H.formulas host.now))) }
         ensures over { IfOk result (λ a. StandsOver l.now a) }
     {
@@ -86,7 +88,9 @@ impl Arena {
         requires delegate { IsObjectOrNone self.old delegate }
         requires what { IsMadeAlone what }
         requires names { NamesParts l.now self.old what }
-        ensures made { MatchResult result (λ o. IsMade self.old self.new o (start_values l.now layout.0) layout.0 delegate what) (λ e. IsFullOf self.old self.new 1 (length (start_values l.now layout.0)) e) }
+        ensures made { MatchResult result
+            (λ o. IsMade self.old self.new o (start_values l.now layout.0) layout.0 delegate what)
+            (λ e. IsFullOf self.old self.new 1 (length (start_values l.now layout.0)) e) }
         ensures over { StandsOver l.now self.new }
     {
         let starts = starts_of(l, layout);
@@ -109,7 +113,10 @@ impl Arena {
         requires delegate { IsObjectOrNone self.old delegate }
         requires saved { IsScope self.old saved }
         requires scopes { AreEntries self.old scopes.now }
-        ensures made { MatchResult result (λ o. IsFunctionMade self.old self.new o (start_values l.now (host_layout l.now Function)) (host_layout l.now Function) method home delegate saved scopes.now) (λ e. IsFullOf self.old self.new 1 (length (start_values l.now (host_layout l.now Function)) + length scopes.now) e) }
+        ensures made { MatchResult result (λ o. IsFunctionMade self.old self.new o
+            (start_values l.now (host_layout l.now Function)) (host_layout l.now Function) method home
+            delegate saved scopes.now) (λ e. IsFullOf self.old self.new 1
+            (length (start_values l.now (host_layout l.now Function)) + length scopes.now) e) }
         ensures over { StandsOver l.now self.new }
     {
         let layout = l.layout_of(Part::Host(HostClass::Function));
@@ -120,7 +127,7 @@ impl Arena {
 
     /// The object that the prototype slot of a host class's class object holds, if it holds one.
     fn prototype(&self, class: HostClass) -> Option<ObjId>
-        requires { 0 < length (slots_of self.now.objects (host_class_number class)) }
+        requires { 0 < length (slots_of_object self.now.objects (host_class_number class)) }
         ensures { result ≡ prototype_of self.now (host_class_number class) }
     {
         match self.store.slot(self.host_class(class), 0) {
@@ -132,7 +139,8 @@ impl Arena {
     /// The class object of a host class.
     pub fn host_class(&self, class: HostClass) -> ObjId
         ensures number { result.0 ≡ host_class_number class }
-        ensures is { (l : LinkedFile) → StandsOver l self.now → IsMadeAs self.now result (class_object_of l class) }
+        ensures is { (l : LinkedFile) → StandsOver l self.now
+            → IsMadeAs self.now result (class_object_of l class) }
     {
         ObjId(14 + class_number(class))
     }
@@ -140,8 +148,9 @@ impl Arena {
     /// The host object.
     pub fn host_object(&self) -> ObjId
         requires { (l : LinkedFile) × StandsOver l self.now }
-        ensures number { result.0 ≡ host_object_number (length self.now.formulas) }
-        ensures is { (l : LinkedFile) → StandsOver l self.now → IsMadeAs self.now result (host_object_of l (property_names self.now.formulas)) }
+        ensures number { result.0 ≡ opening_host_object (length self.now.formulas) }
+        ensures is { (l : LinkedFile) → StandsOver l self.now
+            → IsMadeAs self.now result (host_object_of l (property_names self.now.formulas)) }
     {
         ObjId(29 + self.store.formulas() as u32)
     }
@@ -149,8 +158,9 @@ impl Arena {
     /// The global object of a script.
     pub fn global(&self, script: u32) -> ObjId
         requires { (l : LinkedFile) × StandsOver l self.now × (script < length l.file.scripts) }
-        ensures number { result.0 ≡ global_number (length self.now.formulas) script }
-        ensures is { (l : LinkedFile) → StandsOver l self.now → script < length l.file.scripts → IsMadeAs self.now result (global_object l script) }
+        ensures number { result.0 ≡ opening_global_number (length self.now.formulas) script }
+        ensures is { (l : LinkedFile) → StandsOver l self.now → script < length l.file.scripts
+            → IsMadeAs self.now result (global_object l script) }
     {
         // The object is one of those that are counted, so its number has 32 bits.
         let _objects = self.store.counts().objects;
@@ -160,7 +170,9 @@ impl Arena {
     /// The scope entry of a script's global object.
     pub fn global_scope(&self, script: u32) -> ScopeId
         ensures number { result.0 ≡ script }
-        ensures is { (l : LinkedFile) → StandsOver l self.now → script < length l.file.scripts → slice_get self.now.scopes result.0 ≡ Some (entry_of (global_number (length self.now.formulas) script)) }
+        ensures is { (l : LinkedFile) → StandsOver l self.now → script < length l.file.scripts
+            → slice_get self.now.scopes result.0
+            ≡ Some (entry_of (opening_global_number (length self.now.formulas) script)) }
     {
         ScopeId(script)
     }
@@ -185,7 +197,8 @@ impl Arena {
         requires delegate { IsObjectOrNone self.old delegate }
         requires saved { IsScope self.old saved }
         requires scopes { AreEntries self.old scopes.now }
-        ensures made { MakesClass l.now class home base_prototype delegate saved scopes.now self.old self.new result }
+        ensures made { MakesClass l.now class home base_prototype delegate saved scopes.now self.old self.new
+            result }
         ensures over { StandsOver l.now self.new }
     {
         let prototype_layout = l.layout_of(Part::Host(HostClass::Object));
@@ -207,8 +220,10 @@ impl Arena {
     /// Makes an array of some values, last. Its delegate is the prototype of Array.
     pub fn new_array(&mut self, l: &Linked, elements: &[Value]) -> Result<ObjId, Full>
         requires over { StandsOver l.now self.old }
-        requires values { Each (Exists l.now self.old) elements.now }
-        ensures made { MatchResult result (λ o. IsArrayMade self.old self.new o elements.now (array_layout l.now) (array_prototype self.old)) (λ e. IsFullOf self.old self.new 1 (length elements.now) e) }
+        requires values { EachAt (Exists l.now self.old) elements.now }
+        ensures made { MatchResult result (λ o. IsArrayMade self.old self.new o elements.now
+            (array_layout l.now) (array_prototype self.old))
+            (λ e. IsFullOf self.old self.new 1 (length elements.now) e) }
         ensures over { StandsOver l.now self.new }
     {
         let layout = l.layout_of(Part::Host(HostClass::Array));
@@ -219,7 +234,8 @@ impl Arena {
     /// Makes an array of some elements that are undefined, last. Its delegate is the prototype of Array.
     pub fn new_undefined(&mut self, l: &Linked, count: u32) -> Result<ObjId, Full>
         requires over { StandsOver l.now self.old }
-        ensures made { MatchResult result (λ o. IsArrayMade self.old self.new o (replicate count Undefined) (array_layout l.now) (array_prototype self.old)) (λ e. IsFullOf self.old self.new 1 count e) }
+        ensures made { MatchResult result (λ o. IsArrayMade self.old self.new o (replicate count Undefined)
+            (array_layout l.now) (array_prototype self.old)) (λ e. IsFullOf self.old self.new 1 count e) }
         ensures over { StandsOver l.now self.new }
     {
         let layout = l.layout_of(Part::Host(HostClass::Array));
@@ -263,8 +279,8 @@ impl Arena {
 
     /// The value of a slot.
     pub fn slot(&self, o: ObjId, k: u32) -> Value
-        requires { k < length (slots_of self.now.objects o.0) }
-        ensures { slice_get (slots_of self.now.objects o.0) k ≡ Some result }
+        requires { k < length (slots_of_object self.now.objects o.0) }
+        ensures { slice_get (slots_of_object self.now.objects o.0) k ≡ Some result }
     {
         self.store.slot(o, k)
     }
@@ -272,9 +288,9 @@ impl Arena {
     /// Writes a slot. The value is of the kind of the slot's type.
     pub fn set_slot(&mut self, l: &Linked, o: ObjId, k: u32, v: Value)
         requires over { StandsOver l.now self.old }
-        requires slot { k < length (slots_of self.old.objects o.0) }
+        requires slot { k < length (slots_of_object self.old.objects o.0) }
         requires value { Exists l.now self.old v }
-        requires kind { Holds l.now self.old (slot_kind l.now self.old o k) v }
+        requires kind { IsValueOf l.now self.old (slot_kind_of_object l.now self.old o k) v }
         ensures heap { self.new ≡ with_object (with_slot k v) o.0 self.old }
         ensures over { StandsOver l.now self.new }
     {
@@ -313,8 +329,11 @@ impl Arena {
         requires over { StandsOver l.now self.old }
         requires inside { IsObject self.old o }
         requires name { IsText l.now.file.strings self.old name }
-        ensures was { result ≡ is_some (place_in l.now.file.strings self.old o.0 name) }
-        ensures heap { self.new ≡ with_object (with_delete (text_of l.now.file.strings self.old) (text_of l.now.file.strings self.old name)) o.0 self.old }
+        ensures was { result ≡ is_some (place_of_property l.now.file.strings self.old o.0 name) }
+        ensures heap { self.new
+            ≡ with_object
+            (with_delete (text_of l.now.file.strings self.old) (text_of l.now.file.strings self.old name))
+            o.0 self.old }
         ensures over { StandsOver l.now self.new }
     {
         let _ = l;
@@ -368,7 +387,8 @@ impl Arena {
     pub fn set_element(&mut self, o: ObjId, k: u32, v: Value)
         requires { k < length (elements_of self.old.objects o.0) }
         ensures heap { self.new ≡ with_object (with_element k v) o.0 self.old }
-        ensures over { (l : LinkedFile) → StandsOver l self.old → Exists l self.old v → StandsOver l self.new }
+        ensures over { (l : LinkedFile) → StandsOver l self.old → Exists l self.old v
+            → StandsOver l self.new }
     {
         self.store.set_element(o, k, v);
     }
@@ -377,8 +397,11 @@ impl Arena {
     pub fn push_element(&mut self, o: ObjId, v: Value) -> Result<(), Full>
         requires inside { IsObject self.old o }
         requires array { is_array (object_at self.old.objects o.0).what ≡ true }
-        ensures pushed { MatchResult result (λ _. Fits self.old self.new 1 (with_object (with_new_element v) o.0 self.old)) (λ e. IsFull self.old self.new (cells_used self.old) 1 self.old.limits.cells Cells e) }
-        ensures over { (l : LinkedFile) → StandsOver l self.old → Exists l self.old v → StandsOver l self.new }
+        ensures pushed { MatchResult result
+            (λ _. FitsCells self.old self.new 1 (with_object (with_new_element v) o.0 self.old))
+            (λ e. IsFull self.old self.new (cells_used self.old) 1 self.old.limits.cells Cells e) }
+        ensures over { (l : LinkedFile) → StandsOver l self.old → Exists l self.old v
+            → StandsOver l self.new }
     {
         self.store.push_element(o, v)
     }
@@ -402,7 +425,8 @@ impl Arena {
     /// Where a fixed text lies.
     pub fn fixed_text(&self, text: FixedText) -> Span
         ensures span { result ≡ fixed_span text }
-        ensures text { (l : LinkedFile) → StandsOver l self.now → text_of l.file.strings self.now result ≡ fixed_name text }
+        ensures text { (l : LinkedFile) → StandsOver l self.now
+            → text_of l.file.strings self.now result ≡ fixed_name text }
     {
         text.span()
     }
@@ -412,7 +436,10 @@ impl Arena {
         requires over { StandsOver l.now self.old }
         requires a { IsText l.now.file.strings self.old a }
         requires b { IsText l.now.file.strings self.old b }
-        ensures made { MatchResult result (λ s. IsTextMade self.old self.new s (text_of l.now.file.strings self.old a ++ text_of l.now.file.strings self.old b)) (λ e. IsFull self.old self.new (length self.old.made) (a.len + b.len) self.old.limits.text Text e) }
+        ensures made { MatchResult result (λ s. IsTextMade self.old self.new s
+            (text_of l.now.file.strings self.old a ++ text_of l.now.file.strings self.old b))
+            (λ e. IsFull self.old self.new (length self.old.made) (a.len + b.len) self.old.limits.text Text
+            e) }
         ensures over { StandsOver l.now self.new }
     {
         self.store.text_join(&l.abc().strings, a, b)
@@ -421,7 +448,9 @@ impl Arena {
     /// Makes the text of a number.
     pub fn text_of_number(&mut self, n: i64) -> Result<Span, Full>
         requires { IsNumber n }
-        ensures made { MatchResult result (λ s. IsTextMade self.old self.new s (signed_decimal n)) (λ e. IsFull self.old self.new (length self.old.made) (length (signed_decimal n)) self.old.limits.text Text e) }
+        ensures made { MatchResult result (λ s. IsTextMade self.old self.new s (signed_decimal n))
+            (λ e. IsFull self.old self.new (length self.old.made) (length (signed_decimal n))
+            self.old.limits.text Text e) }
         ensures over { (l : LinkedFile) → StandsOver l self.old → StandsOver l self.new }
     {
         self.store.text_of_number(n)
@@ -437,7 +466,11 @@ impl Arena {
 
     /// Takes the room of a frame, which keeps some values: the limit of frames is tested first.
     pub fn take_frame(&mut self, values: u32) -> Result<(), Full>
-        ensures taken { MatchResult result (λ _. (self.old.frames + 1 ≤ self.old.limits.frames) × (self.old.stack + values ≤ self.old.limits.stack) × (self.new ≡ record self.old { frames = self.old.frames + 1; stack = self.old.stack + values })) (λ e. (self.new ≡ self.old) × PassesFrames self.old values e.0) }
+        ensures taken { MatchResult result (λ _. (self.old.frames + 1 ≤ self.old.limits.frames)
+            × (self.old.stack + values ≤ self.old.limits.stack)
+            × (self.new
+            ≡ record self.old { frames = self.old.frames + 1; stack = self.old.stack + values }))
+            (λ e. (self.new ≡ self.old) × PassesFrames self.old values e.0) }
         ensures over { (l : LinkedFile) → StandsOver l self.old → StandsOver l self.new }
     {
         self.store.take_frame(values)
@@ -447,7 +480,8 @@ impl Arena {
     pub fn give_frame(&mut self, values: u32)
         requires frame { 0 < self.old.frames }
         requires values { values ≤ self.old.stack }
-        ensures given { self.new ≡ record self.old { frames = self.old.frames - 1; stack = self.old.stack - values } }
+        ensures given { self.new
+            ≡ record self.old { frames = self.old.frames - 1; stack = self.old.stack - values } }
         ensures over { (l : LinkedFile) → StandsOver l self.old → StandsOver l self.new }
     {
         self.store.give_frame(values);

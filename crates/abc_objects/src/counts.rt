@@ -1,5 +1,5 @@
 ghost use Rattle.std.specs.Prelude.{◌≡◌, ◌<◌, ◌≤◌, ◌*◌, length, MatchResult};
-ghost use Rattle.abc_objects.specs.Opening.{IsUnopened, IsWithin, global_slots as slots_of_globals, opening_counts, slot_count};
+ghost use Rattle.abc_objects.specs.Opening.{IsUnopened, IsOpeningWithin, global_slots as slots_of_globals, opening_counts, slot_count};
 ghost use Rattle.abc_objects.specs.Starts.{StartsExist};
 
 use crate::error::OpenError;
@@ -36,7 +36,8 @@ fn global_slots(l: &Linked) -> u64
 pub(crate) fn test_room(l: &Linked, limits: &Limits, formulas: u32) -> Result<(), OpenError>
     requires starts { StartsExist l.now }
     requires few { formulas ≤ 64 }
-    ensures { MatchResult result (λ _. IsWithin (opening_counts l.now formulas) limits.now) (IsUnopened (opening_counts l.now formulas) limits.now) }
+    ensures { MatchResult result (λ _. IsOpeningWithin (opening_counts l.now formulas) limits.now)
+        (IsUnopened (opening_counts l.now formulas) limits.now) }
 {
     l.linked_law();
     let scripts = l.abc().scripts.len() as u64;

@@ -2,7 +2,7 @@ ghost use Rattle.std.specs.Prelude.{◌≡◌, ◌++◌, ◌∷◌, []};
 ghost use Rattle.std.specs.List.{flat_map};
 ghost use Rattle.abc_base.specs.Faults.{HasCause};
 ghost use Rattle.abc_base.specs.Sinks.{WritesAll};
-ghost use Rattle.abc_objects.specs.Lines.{AreThere, IsThere, behind, bytes_of, line};
+ghost use Rattle.abc_objects.specs.Lines.{AreThere, AreTextsThere, behind, bytes_of_value, texts_line};
 
 use crate::arena::Arena;
 use abc_base::{Failed, Sink, write_all};
@@ -11,8 +11,8 @@ use abc_link::Linked;
 
 /// The bytes of a text, and none of another value.
 fn bytes<'a>(linked: &'a Linked, arena: &'a Arena, v: Value) -> &'a [u8]
-    requires { IsThere linked.now.file.strings arena.now v }
-    ensures { result.now ≡ bytes_of linked.now.file.strings arena.now v }
+    requires { AreTextsThere linked.now.file.strings arena.now v }
+    ensures { result.now ≡ bytes_of_value linked.now.file.strings arena.now v }
 {
     match v {
         Value::Text(text) => arena.text_bytes(linked, text),
@@ -43,7 +43,8 @@ fn write_rest<K: Sink>(
     texts: &[Value],
 ) -> Result<(), Failed>
     requires { AreThere linked.now.file.strings arena.now texts.now }
-    ensures bytes { WritesAll (K.written out.old) (K.written out.new) result (flat_map (behind linked.now.file.strings arena.now) texts.now) }
+    ensures bytes { WritesAll (K.written out.old) (K.written out.new) result
+        (flat_map (behind linked.now.file.strings arena.now) texts.now) }
     ensures cause { HasCause (K.faults out.old) (K.faults out.new) result }
 {
     for text in texts {
@@ -61,9 +62,11 @@ fn write_texts<K: Sink>(
     first: Value,
     rest: &[Value],
 ) -> Result<(), Failed>
-    requires first { IsThere linked.now.file.strings arena.now first }
+    requires first { AreTextsThere linked.now.file.strings arena.now first }
     requires rest { AreThere linked.now.file.strings arena.now rest.now }
-    ensures bytes { WritesAll (K.written out.old) (K.written out.new) result (bytes_of linked.now.file.strings arena.now first ++ flat_map (behind linked.now.file.strings arena.now) rest.now ++ 10 ∷ []) }
+    ensures bytes { WritesAll (K.written out.old) (K.written out.new) result
+        (bytes_of_value linked.now.file.strings arena.now first
+        ++ flat_map (behind linked.now.file.strings arena.now) rest.now ++ 10 ∷ []) }
     ensures cause { HasCause (K.faults out.old) (K.faults out.new) result }
 {
     write_all(out, bytes(linked, arena, first))?;
@@ -80,7 +83,8 @@ pub fn write_line<K: Sink>(
     texts: &[Value],
 ) -> Result<(), Failed>
     requires { AreThere linked.now.file.strings arena.now texts.now }
-    ensures bytes { WritesAll (K.written out.old) (K.written out.new) result (line linked.now.file.strings arena.now texts.now) }
+    ensures bytes { WritesAll (K.written out.old) (K.written out.new) result
+        (texts_line linked.now.file.strings arena.now texts.now) }
     ensures cause { HasCause (K.faults out.old) (K.faults out.new) result }
 {
     match texts.split_first() {

@@ -6,7 +6,7 @@ ghost use Rattle.abc_heap_store.specs.Heap.{HasRoomFor};
 ghost use Rattle.abc_link_names.specs.Linked.{layout_of};
 ghost use Rattle.abc_link_names.specs.Parts.{HasLayout};
 ghost use Rattle.abc_link_names.specs.Slots.{slots_of};
-ghost use Rattle.abc_objects.specs.Opening.{IsOpened, IsUnopened, IsWithin, above_host as above, class_object, entry_of, formula_names as names_of, formula_objects, function_object, function_objects, global_object, global_slots, host_object, host_properties, opened, opening, opening_counts, opening_objects, opening_scopes, property_names as names_with, prototype_id, prototype_object, slot_count, spans_from, with_globals, with_more_properties, with_objects};
+ghost use Rattle.abc_objects.specs.Opening.{IsHeapOpened, IsUnopened, IsOpeningWithin, above_host as above, host_class_object, entry_of, formula_names as names_of, formula_objects, function_object, function_objects, global_object, global_slots, host_object, host_properties, opening_object, opening, opening_counts, opening_objects, opening_scopes, property_names as names_with, prototype_id, prototype_object, slot_count, spans_from, with_globals, with_more_properties, with_objects};
 ghost use Rattle.abc_objects.specs.Starts.{StartsExist};
 
 use crate::counts::test_room;
@@ -56,7 +56,7 @@ fn make_part(
     requires part { HasLayout l.now.file part }
     requires room { HasRoomFor store.old 1 (length (slots_of l.now (layout_of l.now part).0)) }
     ensures number { result.0 ≡ length store.old.objects }
-    ensures heap { store.new ≡ with_objects (opened l.now part parent what ∷ []) store.old }
+    ensures heap { store.new ≡ with_objects (opening_object l.now part parent what ∷ []) store.old }
 {
     l.linked_law();
     let layout = l.layout_of(part);
@@ -91,7 +91,7 @@ fn make_prototypes(store: &mut Store, l: &Linked, classes: &[HostClass])
 fn make_class_object(store: &mut Store, l: &Linked, class: HostClass)
     requires starts { StartsExist l.now }
     requires room { HasRoomFor store.old 1 1 }
-    ensures { store.new ≡ with_objects (class_object l.now class ∷ []) store.old }
+    ensures { store.new ≡ with_objects (host_class_object l.now class ∷ []) store.old }
 {
     l.linked_law();
     let o = make_part(
@@ -108,7 +108,7 @@ fn make_class_object(store: &mut Store, l: &Linked, class: HostClass)
 fn make_class_objects(store: &mut Store, l: &Linked, classes: &[HostClass])
     requires starts { StartsExist l.now }
     requires room { HasRoomFor store.old (length classes.now) (length classes.now) }
-    ensures { store.new ≡ with_objects (map (class_object l.now) classes.now) store.old }
+    ensures { store.new ≡ with_objects (map (host_class_object l.now) classes.now) store.old }
 {
     l.linked_law();
     for class in classes {
@@ -157,7 +157,8 @@ fn add_properties(store: &mut Store, o: ObjId, names: &[Bytes])
     requires short { 62 + length (concat names.now) < 2 ^ 32 }
     requires few { 14 + length names.now < 2 ^ 32 }
     requires bytes { 62 + length (concat names.now) ≤ length store.old.fixed }
-    ensures { store.new ≡ with_object (with_more_properties (host_properties 14 (spans_from 62 names.now))) o.0 store.old }
+    ensures { store.new
+        ≡ with_object (with_more_properties (host_properties 14 (spans_from 62 names.now))) o.0 store.old }
 {
     let mut start = 62;
     let mut object = 14;
@@ -200,7 +201,11 @@ fn make_global(store: &mut Store, l: &Linked, script: u32)
     requires starts { StartsExist l.now }
     requires script { script < length l.now.file.scripts }
     requires room { HasRoomFor store.old 1 (slot_count l.now script + 1) }
-    ensures { store.new ≡ record store.old { objects = store.old.objects ++ global_object l.now script ∷ []; scopes = store.old.scopes ++ entry_of (length store.old.objects) ∷ [] } }
+    ensures { store.new
+        ≡ record store.old {
+          objects = store.old.objects ++ global_object l.now script ∷ [];
+          scopes = store.old.scopes ++ entry_of (length store.old.objects) ∷ [];
+        } }
 {
     let object = make_part(
         store,
@@ -239,8 +244,10 @@ fn make_opening(store: &mut Store, l: &Linked, names: &[Bytes], formulas: u32, s
     requires names { names.now ≡ names_with store.old.formulas }
     requires short { 62 + length (concat names.now) < 2 ^ 32 }
     requires bytes { 62 + length (concat names.now) ≤ length store.old.fixed }
-    requires room { IsWithin (opening_counts l.now formulas) store.old.limits }
-    ensures { store.new ≡ record store.old { objects = opening_objects l.now store.old.formulas; scopes = opening_scopes l.now formulas } }
+    requires room { IsOpeningWithin (opening_counts l.now formulas) store.old.limits }
+    ensures { store.new
+        ≡ record store.old
+        { objects = opening_objects l.now store.old.formulas; scopes = opening_scopes l.now formulas } }
 {
     l.linked_law();
     let classes = HOST_CLASSES.as_slice();
@@ -263,7 +270,7 @@ fn opened_store(
     requires count { count ≡ length formulas }
     requires few { count ≤ 64 }
     requires short { 62 + length (concat (names_with formulas)) < 2 ^ 32 }
-    requires room { IsWithin (opening_counts l.now count) limits }
+    requires room { IsOpeningWithin (opening_counts l.now count) limits }
     ensures { IfOk result (λ h. h ≡ opening l.now formulas limits) }
 {
     l.linked_law();
@@ -285,7 +292,8 @@ pub(crate) fn open_store<H: Host>(
     host: &H,
 ) -> Result<Store, OpenError>
     requires { StartsExist l.now }
-    ensures { MatchResult result (IsOpened l.now (names_of (H.formulas host.now)) limits.now) (IsUnopened (opening_counts l.now (length (H.formulas host.now))) limits.now) }
+    ensures { MatchResult result (IsHeapOpened l.now (names_of (H.formulas host.now)) limits.now)
+        (IsUnopened (opening_counts l.now (length (H.formulas host.now))) limits.now) }
 {
     let count = host.count();
     test_room(l, limits, count)?;

@@ -2,7 +2,7 @@ ghost use Rattle.std.specs.Prelude.{◌≡◌, length, map};
 ghost use Rattle.abc_heap_store.specs.Texts.{pool_text};
 ghost use Rattle.abc_link_names.specs.Linked.{IsLayout};
 ghost use Rattle.abc_link_names.specs.Slots.{slots_of};
-ghost use Rattle.abc_objects.specs.Starts.{CanStart, IsShort, IsShortStart, StartsExist, start_value, string_span};
+ghost use Rattle.abc_objects.specs.Starts.{CanStartSlots, IsShort, IsShortStart, StartsExist, start_value, string_span};
 
 use crate::fixed::FixedText;
 use abc_base::{Bytes, Table};
@@ -16,13 +16,13 @@ use abc_link_names::{LayoutId, SlotInfo, Start};
 pub struct LayoutStarts<'a> {
     pub pool: &'a Table<Bytes>,
     pub slots: &'a Table<SlotInfo>,
-    ghost sound: { CanStart pool.now slots.now },
+    ghost sound: { CanStartSlots pool.now slots.now },
 }
 
 impl<'a> LayoutStarts<'a> {
     /// The starts of some slots of a file with these strings.
     pub fn new(pool: &'a Table<Bytes>, slots: &'a Table<SlotInfo>) -> LayoutStarts<'a>
-        requires { CanStart pool.now slots.now }
+        requires { CanStartSlots pool.now slots.now }
         ensures pool { result.pool.now ≡ pool.now }
         ensures slots { result.slots.now ≡ slots.now }
     {

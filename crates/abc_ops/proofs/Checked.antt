@@ -9,13 +9,13 @@ use Rattle.std.specs.declared.result.Result.{Result}
 use Rattle.std.specs.declared.result.Result.TheVariants.{Ok, Err}
 use Rattle.abc_base.specs.declared.names.Fault.{Fault}
 use Rattle.abc_base.specs.declared.names.Fault.TheVariants.{NotANumber}
-use Rattle.abc_heap_values.specs.Modular.{signed, unsigned}
+use Rattle.abc_heap_values.specs.Modular.{modulo_signed, modulo_unsigned}
 use Rattle.abc_heap_values.specs.Plain.{remainder}
 use Rattle.abc_heap_values.specs.declared.values.Value.{Value}
 use Rattle.abc_heap_values.specs.declared.values.Value.TheVariants as values
 use Rattle.abc_heap_values.specs.Equality.{same_values}
-use Rattle.abc_heap_values.specs.Numbers.{and_then, whole_of}
-use Rattle.abc_heap_values.specs.Order.{ordered}
+use Rattle.abc_heap_values.specs.Numbers.{then_number, whole_of}
+use Rattle.abc_heap_values.specs.Order.{order_of}
 use Rattle.abc_heap_values.specs.declared.order.Order.TheVariants as orders
 use Rattle.abc_heap_store.specs.Heap.{Heap}
 use Rattle.abc_heap_store.specs.Texts.{text_of}
@@ -24,7 +24,7 @@ use Rattle.abc_ops.proofs.Spaces.{same_space_equivalence}
 use Rattle.abc_link_names.specs.Linked.{LinkedFile}
 use Rattle.abc_ops.specs.Compares.{or_fault}
 use Rattle.abc_ops.specs.Laws.{ConvertsModulo, IntegersAreModulo, IsRemainder, ModuloHasTheSign, OrdersAreOpposed, ShiftsUseFiveBits, StrictEqualsIsEquivalence, UndefinedIsUnordered}
-use Rattle.abc_ops.specs.Left.{Left, gives, number_or_fault, unchanged}
+use Rattle.abc_ops.specs.Left.{Left, gives_left, number_or_fault, heap_unchanged}
 use Rattle.abc_ops.proofs.Opposites.{undefined_left, undefined_right, values_opposed}
 use Rattle.abc_ops.proofs.Same.{same_values_equivalence}
 use Rattle.abc_ops.proofs.Wrapped.{remainder_not_negative, remainder_not_positive, same_distance, signed_high, signed_low, signed_turns, unsigned_below, unsigned_turns}
@@ -36,10 +36,10 @@ converts_modulo l h n =
     let s = signed_turns n in
     let u = unsigned_turns n in
     record {
-      int = signed n;
+      int = modulo_signed n;
       int_modulo = record { above = signed_low n; below = signed_high n; turns = s.0; differs = s.1 };
       is_int = refl;
-      uint = pos (unsigned n);
+      uint = pos (modulo_unsigned n);
       uint_modulo = record { above = omega (arith, ints); below = omega (arith, ints, unsigned_below n); turns = u.0; differs = u.1 };
       is_uint = refl;
     }
@@ -51,14 +51,14 @@ integers_modulo l h n = converts_modulo l h n
 
 pub shifts_by_five : ShiftsUseFiveBits
 shifts_by_five = (
-  λ l h x n. ap (λ (d : ℕ). unchanged h (number_or_fault (and_then (whole_of x) (λ (a : ℤ). Ok (int_shl w32 (signed a) d))))) (sym (same_distance n)),
-  λ l h x n. ap (λ (d : ℕ). unchanged h (number_or_fault (and_then (whole_of x) (λ (a : ℤ). Ok (int_shr (signed a) d))))) (sym (same_distance n)),
-  λ l h x n. ap (λ (d : ℕ). unchanged h (number_or_fault (and_then (whole_of x) (λ (a : ℤ). Ok (pos (unsigned a / 2 ^ d)))))) (sym (same_distance n)),
+  λ l h x n. ap (λ (d : ℕ). heap_unchanged h (number_or_fault (then_number (whole_of x) (λ (a : ℤ). Ok (int_shl w32 (modulo_signed a) d))))) (sym (same_distance n)),
+  λ l h x n. ap (λ (d : ℕ). heap_unchanged h (number_or_fault (then_number (whole_of x) (λ (a : ℤ). Ok (int_shr (modulo_signed a) d))))) (sym (same_distance n)),
+  λ l h x n. ap (λ (d : ℕ). heap_unchanged h (number_or_fault (then_number (whole_of x) (λ (a : ℤ). Ok (pos (modulo_unsigned a / 2 ^ d)))))) (sym (same_distance n)),
 )
 
 -- ---- remainders
 
-left_number : (h : Heap) (q : Result ℤ Fault) (r : ℤ) → unchanged h (number_or_fault q) ≡ gives h (values.Num r) → q ≡ Ok r
+left_number : (h : Heap) (q : Result ℤ Fault) (r : ℤ) → heap_unchanged h (number_or_fault q) ≡ gives_left h (values.Num r) → q ≡ Ok r
 left_number h (Ok n) r e = cc (ap (λ (s : Left Value). s.answer) e)
 left_number h (Err f) r e = cc (ap (λ (s : Left Value). s.answer) e)
 
@@ -105,12 +105,12 @@ orders_opposed l h x y dx dy =
     let text = text_of l.file.strings h in
     let w = values_opposed text x y dx dy in
     record {
-      less_or_equal = λ r e. ap or_fault (w.less_or_equal r (fault_free (ordered text orders.Less y x) r e));
-      greater = λ r e. ap or_fault (w.greater r (fault_free (ordered text orders.Less y x) r e));
-      greater_or_equal = λ r e. ap or_fault (w.greater_or_equal r (fault_free (ordered text orders.Less x y) r e));
+      less_or_equal = λ r e. ap or_fault (w.less_or_equal r (fault_free (order_of text orders.Less y x) r e));
+      greater = λ r e. ap or_fault (w.greater r (fault_free (order_of text orders.Less y x) r e));
+      greater_or_equal = λ r e. ap or_fault (w.greater_or_equal r (fault_free (order_of text orders.Less x y) r e));
     }
 
 pub undefined_unordered : UndefinedIsUnordered
 undefined_unordered l h o v r =
     let text = text_of l.file.strings h in
-    (λ e. undefined_left text o v r (fault_free (ordered text o values.Undefined v) r e), λ e. undefined_right text o v r (fault_free (ordered text o v values.Undefined) r e))
+    (λ e. undefined_left text o v r (fault_free (order_of text o values.Undefined v) r e), λ e. undefined_right text o v r (fault_free (order_of text o v values.Undefined) r e))

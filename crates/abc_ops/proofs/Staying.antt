@@ -22,8 +22,8 @@ use Rattle.abc_objects.specs.declared.fixed.FixedText.TheVariants as fixed
 use Rattle.abc_objects.specs.Growing.{Grows}
 use Rattle.abc_objects.proofs.Grown.{grows_self}
 use Rattle.abc_objects.proofs.Kept.{made_grows, over_made}
-use Rattle.abc_ops.specs.Conversions.{spelled}
-use Rattle.abc_ops.specs.Left.{Leaves, Left, followed_by, followed, text_made, text_made_if}
+use Rattle.abc_ops.specs.Conversions.{spelling}
+use Rattle.abc_ops.specs.Left.{LeavesHeap, Left, followed_by, then_with, text_made, text_made_if}
 use Rattle.abc_ops.specs.declared.end.OpEnd.{OpEnd}
 
 -- the arena still stands over the file, it only grew, and the text that was answered is there
@@ -33,7 +33,7 @@ pub record StaysWithText (l : LinkedFile) (old new : Heap) (result : Result Span
   pub there : IfOk result (IsText l.file.strings new)
 
 -- what holds of the step holds of what the code answered and left
-pub stays_left : (l : LinkedFile) (old new : Heap) (step : Left Span) (r : Result Span OpEnd) → Leaves step r new → StaysWithText l old step.heap step.answer → StaysWithText l old new r
+pub stays_left : (l : LinkedFile) (old new : Heap) (step : Left Span) (r : Result Span OpEnd) → LeavesHeap step r new → StaysWithText l old step.heap step.answer → StaysWithText l old new r
 stays_left l old new step r e s =
     subst (λ (h : Heap). StaysWithText l old h r) (sym e.1) (subst (λ (q : Result Span OpEnd). StaysWithText l old step.heap q) (sym e.0) s)
 
@@ -68,7 +68,7 @@ made_if_stays l h false bytes s = record { over = s; grows = grows_self h; there
 pub made_stays : (l : LinkedFile) (h : Heap) (bytes : List ℕ) → StandsOver l h → StaysWithText l h (text_made h bytes).heap (text_made h bytes).answer
 made_stays l h bytes s = made_if_stays l h (nat_le (length h.made + length bytes) h.limits.text) bytes s
 
-pub spelled_stays : (l : LinkedFile) (h : Heap) (v : Value) → StandsOver l h → Exists l h v → StaysWithText l h (spelled l h v).heap (spelled l h v).answer
+pub spelled_stays : (l : LinkedFile) (h : Heap) (v : Value) → StandsOver l h → Exists l h v → StaysWithText l h (spelling l h v).heap (spelling l h v).answer
 spelled_stays l h values.Undefined s e = record { over = s; grows = grows_self h; there = fixed_there l h fixed.Undefined s }
 spelled_stays l h values.Null s e = record { over = s; grows = grows_self h; there = fixed_there l h fixed.Null s }
 spelled_stays l h (values.Num n) s e = made_stays l h (signed_decimal n) s
@@ -84,13 +84,13 @@ grows_itself old new e = subst (λ (h : Heap). Grows old h) (sym e) (grows_self 
 
 -- ---- steps one after the other
 
-pub then_ok : {A B : Type 0} (step : Left A) (x : A) (g : Heap) (f : Heap → A → Left B) (r : Result B OpEnd) (k : Heap) → Leaves step (Ok x) g → Leaves (f g x) r k → Leaves (followed step f) r k
+pub then_ok : {A B : Type 0} (step : Left A) (x : A) (g : Heap) (f : Heap → A → Left B) (r : Result B OpEnd) (k : Heap) → LeavesHeap step (Ok x) g → LeavesHeap (f g x) r k → LeavesHeap (then_with step f) r k
 then_ok {A = A} step x g f r k e p =
-    subst (λ (q : Result A OpEnd). Leaves (followed_by step.heap q f) r k) e.0 (subst (λ (h : Heap). Leaves (followed_by h (Ok x) f) r k) e.1 p)
+    subst (λ (q : Result A OpEnd). LeavesHeap (followed_by step.heap q f) r k) e.0 (subst (λ (h : Heap). LeavesHeap (followed_by h (Ok x) f) r k) e.1 p)
 
-pub then_err : {A B : Type 0} (step : Left A) (x : OpEnd) (g : Heap) (f : Heap → A → Left B) → Leaves step (Err x) g → Leaves (followed step f) (Err x) g
+pub then_err : {A B : Type 0} (step : Left A) (x : OpEnd) (g : Heap) (f : Heap → A → Left B) → LeavesHeap step (Err x) g → LeavesHeap (then_with step f) (Err x) g
 then_err {A = A} step x g f e =
-    subst (λ (q : Result A OpEnd). Leaves (followed_by step.heap q f) (Err x) g) e.0 (subst (λ (h : Heap). Leaves (followed_by h (Err x) f) (Err x) g) e.1 (refl, refl))
+    subst (λ (q : Result A OpEnd). LeavesHeap (followed_by step.heap q f) (Err x) g) e.0 (subst (λ (h : Heap). LeavesHeap (followed_by h (Err x) f) (Err x) g) e.1 (refl, refl))
 
 -- ---- values that are there
 

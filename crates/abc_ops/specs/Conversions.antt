@@ -17,35 +17,35 @@ use Rattle.abc_link_names.specs.Linked.{LinkedFile}
 use Rattle.abc_objects.specs.Fixed.{fixed_span}
 use Rattle.abc_objects.specs.Starts.{string_span}
 use Rattle.abc_objects.specs.declared.fixed.FixedText.TheVariants as fixed
-use Rattle.abc_ops.specs.Left.{Left, as_value, ends_by, gives, number_or_fault, text_made, unchanged}
+use Rattle.abc_ops.specs.Left.{Left, as_value, ends_by, gives_left, number_or_fault, text_made, heap_unchanged}
 use Rattle.abc_ops.specs.declared.end.OpEnd.{OpEnd}
 use Rattle.abc_ops.specs.declared.end.OpEnd.TheVariants as ends
 
 -- convert_s: a number makes its text, a namespace has its name
-abbrev pub spelled : LinkedFile → Heap → Value → Left Span
-spelled l h values.Undefined = gives h (fixed_span fixed.Undefined)
-spelled l h values.Null = gives h (fixed_span fixed.Null)
-spelled l h (values.Num n) = text_made h (signed_decimal n)
-spelled l h (values.Bool true) = gives h (fixed_span fixed.True)
-spelled l h (values.Bool false) = gives h (fixed_span fixed.False)
-spelled l h (values.Text s) = gives h s
-spelled l h (values.Space n) = gives h (string_span l.file.strings (space l.file n).name)
-spelled l h (values.Obj o) = ends_by h (ends.Profile faults.ObjectToPrimitive)
+abbrev pub spelling : LinkedFile → Heap → Value → Left Span
+spelling l h values.Undefined = gives_left h (fixed_span fixed.Undefined)
+spelling l h values.Null = gives_left h (fixed_span fixed.Null)
+spelling l h (values.Num n) = text_made h (signed_decimal n)
+spelling l h (values.Bool true) = gives_left h (fixed_span fixed.True)
+spelling l h (values.Bool false) = gives_left h (fixed_span fixed.False)
+spelling l h (values.Text s) = gives_left h s
+spelling l h (values.Space n) = gives_left h (string_span l.file.strings (space l.file n).name)
+spelling l h (values.Obj o) = ends_by h (ends.Profile faults.ObjectToPrimitive)
 
 -- convert_o
-abbrev pub objected : Value → Result Value OpEnd
-objected v = if is_nothing v then Err (ends.Throw hosts.TypeError) else Ok v
+abbrev pub object_or_error : Value → Result Value OpEnd
+object_or_error v = if is_nothing v then Err (ends.Throw hosts.TypeError) else Ok v
 
 -- coerce_s
-abbrev pub text_or_null : LinkedFile → Heap → Value → Left Value
-text_or_null l h v = if is_nothing v then gives h values.Null else as_value (spelled l h v)
+abbrev pub converted_or_null : LinkedFile → Heap → Value → Left Value
+converted_or_null l h v = if is_nothing v then gives_left h values.Null else as_value (spelling l h v)
 
 -- what a conversion gives of a value, and the heap that it leaves
-abbrev pub converted : LinkedFile → Heap → Conversion → Value → Left Value
-converted l h conversions.ConvertS v = as_value (spelled l h v)
-converted l h conversions.ConvertI v = unchanged h (number_or_fault (int_of v))
-converted l h conversions.ConvertU v = unchanged h (number_or_fault (uint_of v))
-converted l h conversions.ConvertD v = unchanged h (number_or_fault (number_of v))
-converted l h conversions.ConvertB v = gives h (values.Bool (truth_of v))
-converted l h conversions.ConvertO v = unchanged h (objected v)
-converted l h conversions.CoerceS v = text_or_null l h v
+abbrev pub conversion_result : LinkedFile → Heap → Conversion → Value → Left Value
+conversion_result l h conversions.ConvertS v = as_value (spelling l h v)
+conversion_result l h conversions.ConvertI v = heap_unchanged h (number_or_fault (int_of v))
+conversion_result l h conversions.ConvertU v = heap_unchanged h (number_or_fault (uint_of v))
+conversion_result l h conversions.ConvertD v = heap_unchanged h (number_or_fault (number_of v))
+conversion_result l h conversions.ConvertB v = gives_left h (values.Bool (truth_of v))
+conversion_result l h conversions.ConvertO v = heap_unchanged h (object_or_error v)
+conversion_result l h conversions.CoerceS v = converted_or_null l h v

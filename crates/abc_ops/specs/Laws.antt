@@ -2,7 +2,7 @@
 use Rattle.std.specs.Prelude.{◌≡◌, ℕ, ◌%◌, ◌<◌, ℤ, pos, negsuc, ◌+ℤ◌, ◌*ℤ◌, ◌≤ℤ◌, unsigned_abs, Bool, false, not, Ok}
 use Rattle.std.specs.Cmp.{IsEquivalence}
 use Rattle.std.specs.declared.result.Result.{Result}
-use Rattle.abc_heap_values.specs.Modular.{unsigned}
+use Rattle.abc_heap_values.specs.Modular.{modulo_unsigned}
 use Rattle.abc_heap_values.specs.declared.values.Value.{Value}
 use Rattle.abc_heap_values.specs.declared.values.Value.TheVariants.{Num, Undefined}
 use Rattle.abc_heap_values.specs.Kinds.{is_undefined}
@@ -12,10 +12,10 @@ use Rattle.abc_heap_values.specs.declared.order.Order.{Order}
 use Rattle.abc_heap_values.specs.declared.order.Order.TheVariants.{Less, LessOrEqual, Greater, GreaterOrEqual}
 use Rattle.abc_heap_store.specs.Heap.{Heap}
 use Rattle.abc_link_names.specs.Linked.{LinkedFile}
-use Rattle.abc_ops.specs.Compares.{compared, compared_as}
-use Rattle.abc_ops.specs.Conversions.{converted}
-use Rattle.abc_ops.specs.Left.{gives}
-use Rattle.abc_ops.specs.Operations.{computed}
+use Rattle.abc_ops.specs.Compares.{comparison_result, compared_as}
+use Rattle.abc_ops.specs.Conversions.{conversion_result}
+use Rattle.abc_ops.specs.Left.{gives_left}
+use Rattle.abc_ops.specs.Operations.{computation}
 use Rattle.abc_file_types.specs.declared.op.TheConstants as op
 
 -- ---- convert_i and convert_u: the number in a range of 2 ^ 32 numbers that differs by a multiple of 2 ^ 32
@@ -30,10 +30,10 @@ pub record IsModulo (low high n m : ℤ) : Type 0 where
 pub record ConvertsModulo (l : LinkedFile) (h : Heap) (n : ℤ) : Type 0 where
   pub int : ℤ
   pub int_modulo : IsModulo (negsuc 2147483647) (pos 2147483647) n int
-  pub is_int : converted l h ConvertI (Num n) ≡ gives h (Num int)
+  pub is_int : conversion_result l h ConvertI (Num n) ≡ gives_left h (Num int)
   pub uint : ℤ
   pub uint_modulo : IsModulo (pos 0) (pos 4294967295) n uint
-  pub is_uint : converted l h ConvertU (Num n) ≡ gives h (Num uint)
+  pub is_uint : conversion_result l h ConvertU (Num n) ≡ gives_left h (Num uint)
 
 -- convert_i and convert_u give each number modulo 2 ^ 32, signed and unsigned
 abbrev pub IntegersAreModulo : Type 0
@@ -42,11 +42,11 @@ IntegersAreModulo = (l : LinkedFile) (h : Heap) (n : ℤ) → ConvertsModulo l h
 -- ---- lshift, rshift and urshift (A5, A6, A7) use the low five bits of the right operand
 
 abbrev pub low_five : ℤ → ℤ
-low_five n = pos (unsigned n % 32)
+low_five n = pos (modulo_unsigned n % 32)
 
 -- the opcode computes the same by the low five bits alone
 abbrev pub UsesFiveBits : ℕ → Type 0
-UsesFiveBits op = (l : LinkedFile) (h : Heap) (x : Value) (n : ℤ) → computed l h op x (Num n) ≡ computed l h op x (Num (low_five n))
+UsesFiveBits op = (l : LinkedFile) (h : Heap) (x : Value) (n : ℤ) → computation l h op x (Num n) ≡ computation l h op x (Num (low_five n))
 
 -- the three shifts use the low five bits of the right operand alone
 abbrev pub ShiftsUseFiveBits : Type 0
@@ -63,13 +63,13 @@ pub record IsRemainder (x y r : ℤ) : Type 0 where
 
 -- a number that modulo gives is the remainder, with the dividend's sign
 abbrev pub ModuloHasTheSign : Type 0
-ModuloHasTheSign = (l : LinkedFile) (h : Heap) (x y r : ℤ) → computed l h op.MODULO (Num x) (Num y) ≡ gives h (Num r) → IsRemainder x y r
+ModuloHasTheSign = (l : LinkedFile) (h : Heap) (x y r : ℤ) → computation l h op.MODULO (Num x) (Num y) ≡ gives_left h (Num r) → IsRemainder x y r
 
 -- ---- strictequals (AC) answers always, and as an equivalence
 
 pub record IsStrict (l : LinkedFile) (h : Heap) : Type 0 where
   pub same : Value → Value → Bool
-  pub answers : (x y : Value) → compared l h op.STRICTEQUALS x y ≡ Ok (same x y)
+  pub answers : (x y : Value) → comparison_result l h op.STRICTEQUALS x y ≡ Ok (same x y)
   pub equivalence : IsEquivalence same
 
 -- strictequals answers of any two values, and as an equivalence

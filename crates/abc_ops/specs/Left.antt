@@ -14,12 +14,12 @@ pub record Left (A : Type 0) : Type 0 where
   pub answer : Result A OpEnd
   pub heap : Heap
 
-abbrev pub gives : {A : Type 0} → Heap → A → Left A
-gives h x = record { answer = Ok x; heap = h }
+abbrev pub gives_left : {A : Type 0} → Heap → A → Left A
+gives_left h x = record { answer = Ok x; heap = h }
 
 -- the heap stays as it is
-abbrev pub unchanged : {A : Type 0} → Heap → Result A OpEnd → Left A
-unchanged h answer = record { answer = answer; heap = h }
+abbrev pub heap_unchanged : {A : Type 0} → Heap → Result A OpEnd → Left A
+heap_unchanged h answer = record { answer = answer; heap = h }
 
 abbrev pub ends_by : {A : Type 0} → Heap → OpEnd → Left A
 ends_by h e = record { answer = Err e; heap = h }
@@ -29,12 +29,12 @@ abbrev pub followed_by : {A B : Type 0} → Heap → Result A OpEnd → (Heap �
 followed_by h (Ok x) f = f h x
 followed_by h (Err e) f = ends_by h e
 
-abbrev pub followed : {A B : Type 0} → Left A → (Heap → A → Left B) → Left B
-followed step f = followed_by step.heap step.answer f
+abbrev pub then_with : {A B : Type 0} → Left A → (Heap → A → Left B) → Left B
+then_with step f = followed_by step.heap step.answer f
 
 -- a text is made, after all others, where there is room for it
 abbrev pub text_made_if : Bool → Heap → List ℕ → Left Span
-text_made_if true h bytes = gives (record h { made = h.made ++ bytes }) (record { part = 1; start = length h.made; len = length bytes })
+text_made_if true h bytes = gives_left (record h { made = h.made ++ bytes }) (record { part = 1; start = length h.made; len = length bytes })
 text_made_if false h bytes = ends_by h (ends.Full limits.Text)
 
 -- a text of these bytes is made, after all others; where there is no room, the limit of text ends it
@@ -48,11 +48,11 @@ number_or_fault (Err f) = Err (ends.Profile f)
 
 -- a text as a value
 abbrev pub text_value : Heap → Span → Left Value
-text_value h s = gives h (values.Text s)
+text_value h s = gives_left h (values.Text s)
 
 abbrev pub as_value : Left Span → Left Value
-as_value step = followed step text_value
+as_value step = then_with step text_value
 
 -- the operation answered and left what it is to
-abbrev pub Leaves : {A : Type 0} → Left A → Result A OpEnd → Heap → Type 0
-Leaves step result heap = (result ≡ step.answer) × (heap ≡ step.heap)
+abbrev pub LeavesHeap : {A : Type 0} → Left A → Result A OpEnd → Heap → Type 0
+LeavesHeap step result heap = (result ≡ step.answer) × (heap ≡ step.heap)

@@ -14,8 +14,8 @@ use Rattle.abc_link_names.specs.Linked.{LinkedFile}
 use Rattle.abc_objects.specs.Fixed.{fixed_span}
 use Rattle.abc_objects.specs.declared.fixed.FixedText.{FixedText}
 use Rattle.abc_objects.specs.declared.fixed.FixedText.TheVariants as fixed
-use Rattle.abc_ops.specs.Conversions.{spelled}
-use Rattle.abc_ops.specs.Left.{Left, as_value, gives, number_or_fault, followed, text_made, unchanged}
+use Rattle.abc_ops.specs.Conversions.{spelling}
+use Rattle.abc_ops.specs.Left.{Left, as_value, gives_left, number_or_fault, then_with, text_made, heap_unchanged}
 use Rattle.abc_file_types.specs.declared.op.TheConstants as op
 
 -- ---- typeof
@@ -40,9 +40,9 @@ type_name h (values.Obj o) = name_of_what (object_at h.objects o.0).what
 -- what the opcode `code` computes of one value, and the heap that is left
 abbrev pub computed_single : Heap → ℕ → Value → Left Value
 computed_single h code v =
-    if nat_eq code op.TYPEOF then gives h (values.Text (fixed_span (type_name h v)))
-    else (if nat_eq code op.NOT then gives h (values.Bool (not (truth_of v)))
-    else unchanged h (number_or_fault (calculated_single_of (single_of code) v)))
+    if nat_eq code op.TYPEOF then gives_left h (values.Text (fixed_span (type_name h v)))
+    else (if nat_eq code op.NOT then gives_left h (values.Bool (not (truth_of v)))
+    else heap_unchanged h (number_or_fault (calculated_single_of (single_of code) v)))
 
 -- ---- two values
 
@@ -52,14 +52,14 @@ joined_texts l h a b = as_value (text_made h (text_of l.file.strings h a ++ text
 
 -- a text, and then that of a value
 abbrev pub joined_to : LinkedFile → Heap → Span → Value → Left Value
-joined_to l h a y = followed (spelled l h y) (λ k b. joined_texts l k a b)
+joined_to l h a y = then_with (spelling l h y) (λ k b. joined_texts l k a b)
 
 -- the texts of both, the left made before the right
-abbrev pub joined : LinkedFile → Heap → Value → Value → Left Value
-joined l h x y = followed (spelled l h x) (λ k a. joined_to l k a y)
+abbrev pub concatenation : LinkedFile → Heap → Value → Value → Left Value
+concatenation l h x y = then_with (spelling l h x) (λ k a. joined_to l k a y)
 
 -- what the opcode `code` computes of two values, the left first, and the heap that is left: add joins where one is a text
-abbrev pub computed : LinkedFile → Heap → ℕ → Value → Value → Left Value
-computed l h code x y =
-    if nat_eq code op.ADD && (is_text x || is_text y) then joined l h x y
-    else unchanged h (number_or_fault (calculated_of (operation_of code) x y))
+abbrev pub computation : LinkedFile → Heap → ℕ → Value → Value → Left Value
+computation l h code x y =
+    if nat_eq code op.ADD && (is_text x || is_text y) then concatenation l h x y
+    else heap_unchanged h (number_or_fault (calculated_of (operation_of code) x y))

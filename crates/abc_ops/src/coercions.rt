@@ -4,7 +4,7 @@ ghost use Rattle.abc_link_names.specs.Linked.{LinkedFile};
 ghost use Rattle.abc_objects.specs.Growing.{Grows};
 ghost use Rattle.abc_objects.specs.Stands.{StandsOver};
 ghost use Rattle.abc_objects.specs.Values.{Exists};
-ghost use Rattle.abc_ops.specs.Coercions.{Coerces, Keeps, kept_by, undefined_as_null as null_for_undefined};
+ghost use Rattle.abc_ops.specs.Coercions.{Coerces, CoercionKeeps, value_kept_by, undefined_as_null as null_for_undefined};
 
 use crate::conversions::convert;
 use crate::end::OpEnd;
@@ -24,7 +24,7 @@ fn undefined_as_null(v: Value) -> Value
 
 /// The value where it is of a type; undefined and null become null.
 fn keep_by(is: bool, v: Value) -> Result<Value, OpEnd>
-    ensures value { result ≡ kept_by is v }
+    ensures value { result ≡ value_kept_by is v }
     ensures there { (l : LinkedFile) (h : Heap) → Exists l h v → IfOk result (Exists l h) }
 {
     if is_nothing(v) {
@@ -39,7 +39,7 @@ fn keep_by(is: bool, v: Value) -> Result<Value, OpEnd>
 fn keep(l: &Linked, a: &Arena, ty: Ty, v: Value) -> Result<Value, OpEnd>
     requires over { StandsOver l.now a.now }
     requires value { Exists l.now a.now v }
-    ensures kept { Keeps l.now a.now ty v result }
+    ensures kept { CoercionKeeps l.now a.now ty v result }
     ensures there { IfOk result (Exists l.now a.now) }
 {
     let is = is_of(l, a, ty, v);

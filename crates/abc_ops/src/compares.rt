@@ -1,7 +1,7 @@
 ghost use Rattle.std.specs.Prelude.{◌≡◌};
 ghost use Rattle.abc_objects.specs.Stands.{StandsOver};
 ghost use Rattle.abc_objects.specs.Values.{Exists};
-ghost use Rattle.abc_ops.specs.Compares.{compared, compared_as, or_fault as or_fault_of};
+ghost use Rattle.abc_ops.specs.Compares.{comparison_result, compared_as, or_fault as or_fault_of};
 
 use crate::end::OpEnd;
 use crate::opcodes::{Comparison, comparison_at};
@@ -68,7 +68,7 @@ pub fn compare(l: &Linked, a: &Arena, op: u8, x: Value, y: Value) -> Result<bool
     requires over { StandsOver l.now a.now }
     requires left { Exists l.now a.now x }
     requires right { Exists l.now a.now y }
-    ensures { result ≡ compared l.now a.now op x y }
+    ensures { result ≡ comparison_result l.now a.now op x y }
 {
     compare_as(l, a, comparison_at(op), x, y)
 }

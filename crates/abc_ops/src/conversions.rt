@@ -8,8 +8,8 @@ ghost use Rattle.abc_objects.specs.Growing.{Grows};
 ghost use Rattle.abc_objects.specs.Stands.{StandsOver};
 ghost use Rattle.abc_objects.specs.Starts.{string_span};
 ghost use Rattle.abc_objects.specs.Values.{Exists};
-ghost use Rattle.abc_ops.specs.Conversions.{converted, objected, spelled, text_or_null as text_or_null_of};
-ghost use Rattle.abc_ops.specs.Left.{Leaves, as_value, number_or_fault};
+ghost use Rattle.abc_ops.specs.Conversions.{conversion_result, object_or_error, spelling, converted_or_null as text_or_null_of};
+ghost use Rattle.abc_ops.specs.Left.{LeavesHeap, as_value, number_or_fault};
 
 use crate::end::OpEnd;
 use crate::made::make_number;
@@ -30,7 +30,7 @@ fn name_of_space(l: &Linked, space: u32) -> Span
 
 fn spell_as(l: &Linked, a: &mut Arena, v: Value) -> Result<Span, OpEnd>
     requires { Exists l.now a.old v }
-    ensures { Leaves (spelled l.now a.old v) result a.new }
+    ensures { LeavesHeap (spelling l.now a.old v) result a.new }
 {
     match v {
         Value::Undefined => Ok(FixedText::Undefined.span()),
@@ -48,7 +48,7 @@ fn spell_as(l: &Linked, a: &mut Arena, v: Value) -> Result<Span, OpEnd>
 pub fn spell(l: &Linked, a: &mut Arena, v: Value) -> Result<Span, OpEnd>
     requires over { StandsOver l.now a.old }
     requires value { Exists l.now a.old v }
-    ensures left { Leaves (spelled l.now a.old v) result a.new }
+    ensures left { LeavesHeap (spelling l.now a.old v) result a.new }
     ensures over { StandsOver l.now a.new }
     ensures grows { Grows a.old a.new }
     ensures there { IfOk result (IsText l.now.file.strings a.new) }
@@ -60,7 +60,7 @@ pub fn spell(l: &Linked, a: &mut Arena, v: Value) -> Result<Span, OpEnd>
 fn to_text(l: &Linked, a: &mut Arena, v: Value) -> Result<Value, OpEnd>
     requires over { StandsOver l.now a.old }
     requires value { Exists l.now a.old v }
-    ensures left { Leaves (as_value (spelled l.now a.old v)) result a.new }
+    ensures left { LeavesHeap (as_value (spelling l.now a.old v)) result a.new }
     ensures over { StandsOver l.now a.new }
     ensures grows { Grows a.old a.new }
     ensures there { IfOk result (Exists l.now a.new) }
@@ -76,7 +76,7 @@ fn to_text(l: &Linked, a: &mut Arena, v: Value) -> Result<Value, OpEnd>
 fn text_or_null(l: &Linked, a: &mut Arena, v: Value) -> Result<Value, OpEnd>
     requires over { StandsOver l.now a.old }
     requires value { Exists l.now a.old v }
-    ensures left { Leaves (text_or_null_of l.now a.old v) result a.new }
+    ensures left { LeavesHeap (text_or_null_of l.now a.old v) result a.new }
     ensures over { StandsOver l.now a.new }
     ensures grows { Grows a.old a.new }
     ensures there { IfOk result (Exists l.now a.new) }
@@ -89,7 +89,7 @@ fn text_or_null(l: &Linked, a: &mut Arena, v: Value) -> Result<Value, OpEnd>
 
 /// The value itself; undefined and null throw a TypeError.
 fn to_object(v: Value) -> Result<Value, OpEnd>
-    ensures value { result ≡ objected v }
+    ensures value { result ≡ object_or_error v }
     ensures there { (l : LinkedFile) (h : Heap) → Exists l h v → IfOk result (Exists l h) }
 {
     if is_nothing(v) {
@@ -117,7 +117,7 @@ pub fn number_value(n: Result<i64, Fault>) -> Result<Value, OpEnd>
 pub fn convert(l: &Linked, a: &mut Arena, to: Conversion, v: Value) -> Result<Value, OpEnd>
     requires over { StandsOver l.now a.old }
     requires value { Exists l.now a.old v }
-    ensures left { Leaves (converted l.now a.old to v) result a.new }
+    ensures left { LeavesHeap (conversion_result l.now a.old to v) result a.new }
     ensures over { StandsOver l.now a.new }
     ensures grows { Grows a.old a.new }
     ensures there { IfOk result (Exists l.now a.new) }

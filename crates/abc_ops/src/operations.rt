@@ -4,8 +4,8 @@ ghost use Rattle.abc_link_names.specs.Linked.{LinkedFile};
 ghost use Rattle.abc_objects.specs.Growing.{Grows};
 ghost use Rattle.abc_objects.specs.Stands.{StandsOver};
 ghost use Rattle.abc_objects.specs.Values.{Exists};
-ghost use Rattle.abc_ops.specs.Left.{Leaves};
-ghost use Rattle.abc_ops.specs.Operations.{computed, computed_single, joined, joined_texts, joined_to, name_of_what, type_name as type_name_of};
+ghost use Rattle.abc_ops.specs.Left.{LeavesHeap};
+ghost use Rattle.abc_ops.specs.Operations.{computation, computed_single, concatenation, joined_texts, joined_to, name_of_what, type_name as type_name_of};
 
 use crate::conversions::{number_value, spell};
 use crate::end::OpEnd;
@@ -50,7 +50,7 @@ fn type_name(a: &Arena, v: Value) -> FixedText
 pub fn unary(l: &Linked, a: &mut Arena, op: u8, v: Value) -> Result<Value, OpEnd>
     requires over { StandsOver l.now a.old }
     requires value { Exists l.now a.old v }
-    ensures left { Leaves (computed_single a.old op v) result a.new }
+    ensures left { LeavesHeap (computed_single a.old op v) result a.new }
     ensures over { StandsOver l.now a.new }
     ensures grows { Grows a.old a.new }
     ensures there { IfOk result (Exists l.now a.new) }
@@ -70,7 +70,7 @@ fn join_texts(l: &Linked, a: &mut Arena, s: Span, t: Span) -> Result<Value, OpEn
     requires over { StandsOver l.now a.old }
     requires left { IsText l.now.file.strings a.old s }
     requires right { IsText l.now.file.strings a.old t }
-    ensures left { Leaves (joined_texts l.now a.old s t) result a.new }
+    ensures left { LeavesHeap (joined_texts l.now a.old s t) result a.new }
     ensures over { StandsOver l.now a.new }
     ensures grows { Grows a.old a.new }
     ensures there { IfOk result (Exists l.now a.new) }
@@ -86,7 +86,7 @@ fn join_to(l: &Linked, a: &mut Arena, s: Span, y: Value) -> Result<Value, OpEnd>
     requires over { StandsOver l.now a.old }
     requires left { IsText l.now.file.strings a.old s }
     requires right { Exists l.now a.old y }
-    ensures left { Leaves (joined_to l.now a.old s y) result a.new }
+    ensures left { LeavesHeap (joined_to l.now a.old s y) result a.new }
     ensures over { StandsOver l.now a.new }
     ensures grows { Grows a.old a.new }
     ensures there { IfOk result (Exists l.now a.new) }
@@ -102,7 +102,7 @@ fn join(l: &Linked, a: &mut Arena, x: Value, y: Value) -> Result<Value, OpEnd>
     requires over { StandsOver l.now a.old }
     requires left { Exists l.now a.old x }
     requires right { Exists l.now a.old y }
-    ensures left { Leaves (joined l.now a.old x y) result a.new }
+    ensures left { LeavesHeap (concatenation l.now a.old x y) result a.new }
     ensures over { StandsOver l.now a.new }
     ensures grows { Grows a.old a.new }
     ensures there { IfOk result (Exists l.now a.new) }
@@ -123,7 +123,7 @@ pub fn binary(l: &Linked, a: &mut Arena, op: u8, x: Value, y: Value) -> Result<V
     requires over { StandsOver l.now a.old }
     requires left { Exists l.now a.old x }
     requires right { Exists l.now a.old y }
-    ensures left { Leaves (computed l.now a.old op x y) result a.new }
+    ensures left { LeavesHeap (computation l.now a.old op x y) result a.new }
     ensures over { StandsOver l.now a.new }
     ensures grows { Grows a.old a.new }
     ensures there { IfOk result (Exists l.now a.new) }

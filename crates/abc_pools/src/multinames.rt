@@ -2,8 +2,8 @@ ghost use Rattle.std.specs.Prelude.{◌≡◌, ◌≤◌, ◌^◌, ◌∷◌, []
 ghost use Rattle.abc_base.specs.Numbers.{number_bytes};
 ghost use Rattle.abc_file_types.specs.Canonical.{counted_bytes};
 ghost use Rattle.abc_file_types.specs.Pools.{multiname, multiname_bytes, multiname_code, multiname_fields, multiname_kind, type_fields};
-ghost use Rattle.abc_varint.specs.Answers.{Answers};
-ghost use Rattle.abc_varint.specs.Passes.{Passes, PassesPart, nothing};
+ghost use Rattle.abc_varint.specs.Answers.{AnswersPart};
+ghost use Rattle.abc_varint.specs.Passes.{Passes, PassesPart, nothing_told};
 ghost use Rattle.abc_varint.specs.Puts.{Puts, PutsWhole};
 ghost use Rattle.abc_varint.specs.Reads.{Reads, ReadsPart};
 ghost use Rattle.abc_varint.specs.declared.error.ReadError.{ReadError};
@@ -94,7 +94,9 @@ fn read_fields<S: Source>(
     kind: MultinameKind,
 ) -> Result<Multiname, ReadError>
     requires { w.old.kept ≡ None }
-    ensures { ReadsPart S.left S.faults (multiname_fields pools.now.strings pools.now.spaces pools.now.sets pools.now.names kind) w.old source.old w.new source.new result }
+    ensures { ReadsPart S.left S.faults
+        (multiname_fields pools.now.strings pools.now.spaces pools.now.sets pools.now.names kind) w.old
+        source.old w.new source.new result }
 {
     match kind {
         MultinameKind::QName { attr } => {
@@ -133,7 +135,9 @@ fn next_multiname<S: Source>(
     source: &mut S,
     pools: &Multinames,
 ) -> Result<Multiname, ReadError>
-    ensures value { ReadsPart S.left S.faults (multiname pools.now.strings pools.now.spaces pools.now.sets pools.now.names) w.old source.old w.new source.new result }
+    ensures value { ReadsPart S.left S.faults
+        (multiname pools.now.strings pools.now.spaces pools.now.sets pools.now.names) w.old source.old w.new
+        source.new result }
     ensures room { w.old.place ≤ 2 ^ 24 }
 {
     let kind = read_multiname_kind(w, source)?;
@@ -156,8 +160,10 @@ pub fn read_multiname<S: Source>(
     sets: u32,
     names: u32,
 ) -> Result<Multiname, ReadError>
-    ensures value { ReadsPart S.left S.faults (multiname strings spaces sets names) w.old source.old w.new source.new result }
-    ensures answers { Answers (multiname strings spaces sets names) w.old (S.left source.old) w.new (S.left source.new) result }
+    ensures value { ReadsPart S.left S.faults (multiname strings spaces sets names) w.old source.old w.new
+        source.new result }
+    ensures answers { AnswersPart (multiname strings spaces sets names) w.old (S.left source.old) w.new
+        (S.left source.new) result }
 {
     let pools = Multinames {
         strings,
@@ -178,7 +184,9 @@ fn pass_type_fields<S: Source>(
     out: &mut Vec<u8>,
 ) -> Result<(), ReadError>
     requires { w.old.kept ≡ None }
-    ensures { PassesPart S.left S.faults (type_fields names) (λ x. number_bytes x.0 ++ counted_bytes number_bytes x.1) nothing w.old source.old w.new source.new out.old.items out.new.items result }
+    ensures { PassesPart S.left S.faults (type_fields names)
+        (λ x. number_bytes x.0 ++ counted_bytes number_bytes x.1) nothing_told w.old source.old w.new
+        source.new out.old.items out.new.items result }
 {
     let base = read_entry_index(w, source, names)?;
     put_u30(base, out)?;
@@ -195,7 +203,9 @@ fn pass_multiname<S: Source>(
     pools: &Multinames,
     out: &mut Vec<u8>,
 ) -> Result<(), ReadError>
-    ensures { PassesPart S.left S.faults (multiname pools.now.strings pools.now.spaces pools.now.sets pools.now.names) multiname_bytes nothing w.old source.old w.new source.new out.old.items out.new.items result }
+    ensures { PassesPart S.left S.faults
+        (multiname pools.now.strings pools.now.spaces pools.now.sets pools.now.names) multiname_bytes
+        nothing_told w.old source.old w.new source.new out.old.items out.new.items result }
 {
     let kind = read_multiname_kind(w, source)?;
     if let MultinameKind::TypeName = kind {

@@ -34,7 +34,8 @@ fn pass_names<S: Source>(
     sets: u32,
     out: &mut Vec<u8>,
 ) -> Result<u32, ReadError>
-    ensures { PassesPart S.left S.faults (multinames strings spaces sets) (pool_bytes multiname_bytes) length w.old source.old w.new source.new out.old.items out.new.items result }
+    ensures { PassesPart S.left S.faults (multinames strings spaces sets) (pool_bytes multiname_bytes) length
+        w.old source.old w.new source.new out.old.items out.new.items result }
 {
     let count = read_u30(w, source)?;
     put_u30(shortest_count(count), out)?;
@@ -58,7 +59,8 @@ pub fn pass_pools<S: Source>(
     source: &mut S,
     out: &mut Vec<u8>,
 ) -> Result<Sizes, ReadError>
-    ensures { PassesPart S.left S.faults spelled_pools pools_bytes (λ v. sizes_with v 0 0 0) w.old source.old w.new source.new out.old.items out.new.items result }
+    ensures { PassesPart S.left S.faults spelled_pools pools_bytes (λ v. sizes_with v 0 0 0) w.old source.old
+        w.new source.new out.old.items out.new.items result }
 {
     let ints = pass_pool(&Signed32, alloc, w, source, out)?;
     let uints = pass_pool(&Number32, alloc, w, source, out)?;

@@ -2,7 +2,7 @@ ghost use Rattle.std.specs.Prelude.{◌≡◌, ◌≤◌, ◌∷◌, [], ◌++�
 ghost use Rattle.abc_file_types.specs.Canonical.{IsCanonical};
 ghost use Rattle.abc_file_types.specs.Law.{IsDetermined};
 ghost use Rattle.abc_file_types.specs.Pools.{multiname, multiname_bytes, multinames, pools as spelled_pools, pools_bytes};
-ghost use Rattle.abc_varint.specs.Answers.{Answers};
+ghost use Rattle.abc_varint.specs.Answers.{AnswersPart};
 ghost use Rattle.abc_varint.specs.Puts.{Puts, PutsWhole};
 ghost use Rattle.abc_varint.specs.Reads.{Reads, ReadsPart};
 
@@ -28,7 +28,8 @@ fn read_names<S: Source>(
     spaces: u32,
     sets: u32,
 ) -> Result<Table<Multiname>, ReadError>
-    ensures { ReadsPart S.left S.faults (multinames strings spaces sets) w.old source.old w.new source.new result }
+    ensures { ReadsPart S.left S.faults (multinames strings spaces sets) w.old source.old w.new source.new
+        result }
 {
     let count = read_u30(w, source)?;
     let names = count.saturating_sub(1);
@@ -86,7 +87,7 @@ pub fn read_pools<S: Source>(
     source: &mut S,
 ) -> Result<Abc, ReadError>
     ensures value { ReadsPart S.left S.faults spelled_pools w.old source.old w.new source.new result }
-    ensures answers { Answers spelled_pools w.old (S.left source.old) w.new (S.left source.new) result }
+    ensures answers { AnswersPart spelled_pools w.old (S.left source.old) w.new (S.left source.new) result }
 {
     // So that its place is known to be at most 2^24.
     let _place = w.place();
@@ -126,6 +127,8 @@ pub fn put_pools(abc: &Abc, out: &mut Vec<u8>) -> Result<(), NoMemory>
 pub fn shortest_spelling()
     ensures one_reading { IsDetermined spelled_pools }
     ensures shortest { IsCanonical spelled_pools pools_bytes }
-    ensures one_reading_of_names { (strings spaces sets names : ℕ) → IsDetermined (multiname strings spaces sets names) }
-    ensures shortest_names { (strings spaces sets names : ℕ) → IsCanonical (multiname strings spaces sets names) multiname_bytes }
+    ensures one_reading_of_names { (strings spaces sets names : ℕ)
+        → IsDetermined (multiname strings spaces sets names) }
+    ensures shortest_names { (strings spaces sets names : ℕ)
+        → IsCanonical (multiname strings spaces sets names) multiname_bytes }
 {}

@@ -8,9 +8,9 @@ use Rattle.std.proofs.lemmas.Bool.{lt-ltb, ne_eqb}
 use Rattle.abc_base.specs.Escapes.{hex_digit}
 use Rattle.abc_heap_store.specs.declared.records.Limit.{Limit}
 use Rattle.abc_heap_store.specs.declared.records.Limits.{Limits}
-use Rattle.abc_log.specs.Lines.{hex_of, limit_end, out_line, profile_end, start_line, step_line, uncaught_end, word_end}
+use Rattle.abc_log.specs.Lines.{log_hex, limit_end, out_line, profile_end, start_line, step_line, uncaught_end, word_end}
 use Rattle.abc_meaning.specs.Lines.{end_line}
-use Rattle.abc_meaning.specs.Logs.{instruction_line, line_of, lines_of, log, log_if, logs_for, steps, steps_for, steps_if, then_counts, then_logs, world_left, wrote_since}
+use Rattle.abc_meaning.specs.Logs.{step_lines, line_of, lines_of_step, log, log_if, logs_for, steps, steps_for, steps_if, then_counts, then_logs, world_left, wrote_since}
 use Rattle.abc_meaning.specs.Meaning.{first_state, first_world, too_small}
 use Rattle.abc_meaning.specs.Step.{step}
 use Rattle.abc_meaning.specs.Throwing.{Done, End, Ends, FuelSpent, Full, Machine, Profile, Stepped, Steps, Stuck, Uncaught, last_script}
@@ -103,7 +103,7 @@ hex_high d = go (nat_lt d 10)
     go true = omega arith
     go false = omega arith
 
-bytes_high : (bytes : List ℕ) → AreHigh (flat_map hex_of bytes)
+bytes_high : (bytes : List ℕ) → AreHigh (flat_map log_hex bytes)
 unfolding AreHigh
 bytes_high [] = tt
 bytes_high (b ∷ bs) = (hex_high (b / 16), (hex_high (b % 16), bytes_high bs))
@@ -139,7 +139,7 @@ step_counted m i more =
 out_counted : (wrote more : List ℕ) → counted true (out_line wrote ++ more) ≡ counted true more
 unfolding counted
 out_counted [] more = refl
-out_counted (b ∷ bs) more = ends (flat_map hex_of (b ∷ bs)) more (bytes_high (b ∷ bs))
+out_counted (b ∷ bs) more = ends (flat_map log_hex (b ∷ bs)) more (bytes_high (b ∷ bs))
 
 end_counted : (v : Abc) (e : End) → counted true (end_line v e) ≡ 0
 unfolding counted limit_end profile_end uncaught_end word_end
@@ -156,7 +156,7 @@ limit_counted limit = refl
 
 -- ---- steps
 
-instruction_counted : (o : Option ℕ) (f : Frame) (more : List ℕ) → counted true (instruction_line o f ++ more) ≡ suc (counted true more)
+instruction_counted : (o : Option ℕ) (f : Frame) (more : List ℕ) → counted true (step_lines o f ++ more) ≡ suc (counted true more)
 instruction_counted (Some s) f more = start_counted s more
 instruction_counted None f more = step_counted f.method f.place more
 
@@ -164,7 +164,7 @@ line_counted : (p : Setting) (q : Machine) (now : List Bool) (fs : List Frame) (
 line_counted p q now [] more = start_counted (last_script p) more
 line_counted p q now (f ∷ fs) more = instruction_counted (started_from 0 q.world.started now) f more
 
-lines_counted : (p : Setting) (q : Machine) (r : Stepped) (more : List ℕ) → counted true (lines_of p q r ++ more) ≡ suc (counted true more)
+lines_counted : (p : Setting) (q : Machine) (r : Stepped) (more : List ℕ) → counted true (lines_of_step p q r ++ more) ≡ suc (counted true more)
 lines_counted p q r more =
     let line = line_of p q (world_left r).started q.frames in
     let out = out_line (wrote_since q.world (world_left r)) in

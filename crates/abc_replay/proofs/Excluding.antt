@@ -16,23 +16,23 @@ use Rattle.abc_log.proofs.Fronts.{one_front}
 use Rattle.abc_log.specs.Limits.{is_no_feed}
 use Rattle.abc_log.proofs.Lined.{limits_feedless, these_limits}
 use Rattle.abc_log.proofs.Standing.{AllStand-append, digits_stand, length-hex_digits}
-use Rattle.abc_log.specs.Lines.{AreLimits, head_line, hex_digits, limits_line, limits_text, next_number, numbers_of}
+use Rattle.abc_log.specs.Lines.{AreLimits, head_line, hex_digits, limits_line, limits_text, next_number, limit_numbers}
 use Rattle.abc_meaning.specs.Inputs.{IsLogOf}
 use Rattle.abc_meaning.specs.Logs.{log}
-use Rattle.abc_meaning.specs.ThrowLaws.{IsVerified}
+use Rattle.abc_meaning.specs.ThrowLaws.{IsVerifiedSetting}
 use Rattle.abc_meaning.specs.Setting.{Setting}
 use Rattle.abc_link_names.specs.Linked.{LinkedFile}
 use Rattle.abc_file_types.specs.Files.{IsFile}
 use Rattle.abc_file_types.specs.declared.tables.Abc.{Abc}
 use Rattle.abc_file_types.proofs.Whole.{decided, read_spelled}
-use Rattle.abc_link_layouts.specs.Numbering.{IsNumbered}
+use Rattle.abc_link_layouts.specs.Numbering.{HasLayoutNumbers}
 use Rattle.abc_verify.proofs.Single.{one_numbered}
-use Rattle.abc_verify.specs.FileRefusing.{IsRefused as IsNoVerifiedFile, IsUnverified, bad, unlinked, untyped, unverified}
+use Rattle.abc_verify.specs.FileRefusing.{IsFileRefused as IsNoVerifiedFile, IsUnverified, bad, unlinked, untyped, unverified}
 use Rattle.abc_verify.specs.declared.verified_error.VerifiedError.{VerifiedError}
 use Rattle.abc_verify.specs.VerifyRefusing.{IsFirstUntyped}
 use Rattle.abc_link_names.proofs.MethodBodies.{body_inside}
 use Rattle.abc_replay.specs.Laws.{HasOneNumber, IsNeverBoth}
-use Rattle.abc_replay.specs.Replays.{HasParts, IsRefused}
+use Rattle.abc_replay.specs.Replays.{HasLogParts, IsLogRefused}
 use Rattle.abc_replay.specs.declared.error.ReplayError.{ReplayError}
 use Rattle.abc_replay.proofs.Counting.{counted, log_counted}
 
@@ -102,7 +102,7 @@ right_head n place input more is w =
 -- ---- the parts of an input
 
 -- the file, and what stands behind it
-same_parts : (input file behind bytes rest : List ℕ) → length file < 2 ^ 32 → input ≡ head_line (length file) ++ (file ++ behind) → HasParts input bytes rest → (bytes ≡ file) × (rest ≡ behind)
+same_parts : (input file behind bytes rest : List ℕ) → length file < 2 ^ 32 → input ≡ head_line (length file) ++ (file ++ behind) → HasLogParts input bytes rest → (bytes ≡ file) × (rest ≡ behind)
 same_parts input file behind bytes rest short is p =
     let both = same_front (head_line (length file)) (head_line p.stated) (file ++ behind) p.following (length-head_line (length file) ∙ sym (length-head_line p.stated)) (sym is ∙ p.is) in
     let same : p.stated ≡ length file = sym (same_head (length file) p.stated short p.low both.0) in (
@@ -129,16 +129,16 @@ all_below a b c d e f n p q r s t u (suc (suc (suc (suc zero)))) lt = t
 all_below a b c d e f n p q r s t u (suc (suc (suc (suc (suc zero))))) lt = u
 all_below a b c d e f n p q r s t u (suc (suc (suc (suc (suc (suc k)))))) lt = absurd (omega (arith, lt))
 
-pub same_numbers : (fuel fuel2 : ℕ) (m m2 : Limits) → AreLimits fuel m → AreLimits fuel2 m2 → limits_text fuel m ≡ limits_text fuel2 m2 → numbers_of fuel m ≡ numbers_of fuel2 m2
+pub same_numbers : (fuel fuel2 : ℕ) (m m2 : Limits) → AreLimits fuel m → AreLimits fuel2 m2 → limits_text fuel m ≡ limits_text fuel2 m2 → limit_numbers fuel m ≡ limit_numbers fuel2 m2
 unfolding limits_text
 same_numbers fuel fuel2 m m2 a b e =
-    these_limits (limits_text fuel m) (flat_map next_number (numbers_of fuel m)) (numbers_of fuel m) refl refl refl
+    these_limits (limits_text fuel m) (flat_map next_number (limit_numbers fuel m)) (limit_numbers fuel m) refl refl refl
     (all_below fuel m.objects m.cells m.text m.frames m.stack (2 ^ 32) a.steps (omega (arith, a.objects)) (omega (arith, a.cells)) (omega (arith, a.text)) (omega (arith, a.frames)) (omega (arith, a.stack))) fuel2 m2 b e
 
 limits_in : List ℕ → Limits
 limits_in ns = record { objects = get_or ns 1 0; cells = get_or ns 2 0; text = get_or ns 3 0; frames = get_or ns 4 0; stack = get_or ns 5 0 }
 
-pub same_limits : (fuel fuel2 : ℕ) (m m2 : Limits) → numbers_of fuel m ≡ numbers_of fuel2 m2 → (fuel ≡ fuel2) × (m ≡ m2)
+pub same_limits : (fuel fuel2 : ℕ) (m m2 : Limits) → limit_numbers fuel m ≡ limit_numbers fuel2 m2 → (fuel ≡ fuel2) × (m ≡ m2)
 unfolding limits_in
 same_limits fuel fuel2 m m2 e = (ap (λ (l : List ℕ). get_or l 0 0) e, ap limits_in e)
 
@@ -158,11 +158,11 @@ grouped formulas l fuel m input is =
     is.is ∙ append_assoc (head ++ is.file) line lines ∙ append_assoc head is.file (line ++ lines)
 
 -- the parts of a log
-log_parts : (formulas : List Formula) (l : LinkedFile) (fuel : ℕ) (m : Limits) (input bytes rest : List ℕ) (is : IsLogOf formulas l fuel m input) → HasParts input bytes rest → (bytes ≡ is.file) × (rest ≡ rest_of formulas l fuel m)
+log_parts : (formulas : List Formula) (l : LinkedFile) (fuel : ℕ) (m : Limits) (input bytes rest : List ℕ) (is : IsLogOf formulas l fuel m input) → HasLogParts input bytes rest → (bytes ≡ is.file) × (rest ≡ rest_of formulas l fuel m)
 log_parts formulas l fuel m input bytes rest is parts = same_parts input is.file (rest_of formulas l fuel m) bytes rest is.short (grouped formulas l fuel m input is) parts
 
 -- a log has parts
-has_parts : (formulas : List Formula) (l : LinkedFile) (fuel : ℕ) (m : Limits) (input : List ℕ) (is : IsLogOf formulas l fuel m input) → HasParts input is.file (rest_of formulas l fuel m)
+has_parts : (formulas : List Formula) (l : LinkedFile) (fuel : ℕ) (m : Limits) (input : List ℕ) (is : IsLogOf formulas l fuel m input) → HasLogParts input is.file (rest_of formulas l fuel m)
 has_parts formulas l fuel m input is = record {
   stated = length is.file;
   following = is.file ++ rest_of formulas l fuel m;
@@ -187,7 +187,7 @@ one_number formulas input n k a b =
 
 -- ---- no log is refused
 
-module _ (formulas : List Formula) (l : LinkedFile) (bytes : List ℕ) (spells : IsFile l.file bytes) (verified : IsVerified (setting_of l formulas)) (numbered : IsNumbered l) where
+module _ (formulas : List Formula) (l : LinkedFile) (bytes : List ℕ) (spells : IsFile l.file bytes) (verified : IsVerifiedSetting (setting_of l formulas)) (numbered : HasLayoutNumbers l) where
   verified_once : (v : Abc) (starts : List (List ℕ)) (e : VerifiedError) → v ≡ l.file → IsUnverified v starts e → ⊥
   verified_once v starts e same (unlinked rule i first) =
       let broken : IsFirstBroken l.file rule i = subst (λ (w : Abc). IsFirstBroken w rule i) same first in
@@ -220,14 +220,14 @@ log_same formulas l k fuel fuel2 m m2 found one within within2 e =
     let same = same_limits fuel fuel2 m m2 (same_numbers fuel fuel2 m m2 within within2 texts.0) in
     sym (ap (drop 1) texts.1) ∙ ap (λ (x : LinkedFile). log (setting_of x formulas) m fuel) (sym one) ∙ ap (λ (y : Limits). log (setting_of k formulas) y fuel) same.1 ∙ ap (log (setting_of k formulas) m2) same.0
 
-no_refusal : (formulas : List Formula) (l : LinkedFile) (fuel : ℕ) (m : Limits) (input : List ℕ) (e : ReplayError) → IsLogOf formulas l fuel m input → IsRefused formulas input e → ⊥
-no_refusal formulas l fuel m input e is (IsRefused.head place wrong) = right_head (length is.file) place input (is.file ++ rest_of formulas l fuel m) (grouped formulas l fuel m input is) wrong
-no_refusal formulas l fuel m input e is (IsRefused.file bytes rest f parts why) =
+no_refusal : (formulas : List Formula) (l : LinkedFile) (fuel : ℕ) (m : Limits) (input : List ℕ) (e : ReplayError) → IsLogOf formulas l fuel m input → IsLogRefused formulas input e → ⊥
+no_refusal formulas l fuel m input e is (IsLogRefused.head place wrong) = right_head (length is.file) place input (is.file ++ rest_of formulas l fuel m) (grouped formulas l fuel m input is) wrong
+no_refusal formulas l fuel m input e is (IsLogRefused.file bytes rest f parts why) =
     let same : is.file ≡ bytes = sym (log_parts formulas l fuel m input bytes rest is parts).0 in
     file_once formulas l bytes (subst (IsFile l.file) same is.spells) is.verified is.numbered f why
-no_refusal formulas l fuel m input e is (IsRefused.limits bytes rest k parts spells none) =
+no_refusal formulas l fuel m input e is (IsLogRefused.limits bytes rest k parts spells none) =
     none fuel m (log (setting_of l formulas) m fuel) is.limits (log_parts formulas l fuel m input bytes rest is parts).1
-no_refusal formulas l fuel m input e is (IsRefused.differs bytes rest found k fuel2 m2 n parts spells within there parted) =
+no_refusal formulas l fuel m input e is (IsLogRefused.differs bytes rest found k fuel2 m2 n parts spells within there parted) =
     let both = log_parts formulas l fuel m input bytes rest is parts in
     let same : k.file ≡ l.file = (decided bytes).one_value k.file l.file spells.spells (subst (IsFile l.file) (sym both.0) is.spells) in
     let one : k ≡ l = one_numbered k l spells.numbered is.numbered same in

@@ -10,11 +10,11 @@ use Rattle.abc_file_types.specs.Files.{IsBadFile}
 use Rattle.abc_file_types.specs.Part.{limit, refusal}
 use Rattle.abc_file_types.specs.declared.reason.Reason.{Reason}
 use Rattle.abc_log.specs.Lines.{head_line}
-use Rattle.abc_verify.specs.FileRefusing.{IsRefused as IsNoVerifiedFile, IsRefusedBy as IsNoFileBy, bad, unverified}
+use Rattle.abc_verify.specs.FileRefusing.{IsFileRefused as IsNoVerifiedFile, IsFileRefusedBy as IsNoFileBy, bad, unverified}
 use Rattle.abc_verify.specs.declared.verified_error.VerifiedError.{VerifiedError}
 use Rattle.abc_verify.specs.declared.verified_error.VerifiedError.TheVariants as files
 use Rattle.abc_replay.specs.Prefaces.{HasFile, HasFront, RefusesAny}
-use Rattle.abc_replay.specs.Replays.{HasParts, IsRefused, error_of, file}
+use Rattle.abc_replay.specs.Replays.{HasLogParts, IsLogRefused, error_of, file}
 use Rattle.abc_replay.proofs.Lifted.{none_taken, parts_told}
 use Rattle.abc_replay.proofs.Longer.{bad_longer}
 use Rattle.abc_replay.proofs.Parts.{memory_ends, no_file, reads_fail}
@@ -43,7 +43,7 @@ whole_front old new bytes f short = record { stated = f.stated; mid = f.mid; low
 record GoesOn (input bytes : List ℕ) : Type 0 where
   more : List ℕ
   rest : List ℕ
-  parts : HasParts input (bytes ++ more) rest
+  parts : HasLogParts input (bytes ++ more) rest
 
 goes_on : (xs rest bytes : List ℕ) (mid : Option (List ℕ)) (stated : ℕ) → stated < 2 ^ 32 → Consumes (Some xs) mid (head_line stated) → Consumes mid (Some rest) bytes → length bytes ≤ stated → GoesOn xs bytes
 goes_on xs rest bytes None stated low head part few = absurd head
@@ -62,7 +62,7 @@ at_fault bytes e long (bad place reason b) = (place, reason, refl, b)
 at_fault bytes e long (unverified v starts f read un) = absurd (omega (arith, long, read.1))
 
 long_refused : (formulas : List Formula) (old new : Option (List ℕ)) (bytes : List ℕ) (place : ℕ) (reason : Reason) → HasFront old new bytes → limit < length bytes → IsBadFile bytes (refusal place reason)
-    → OfInput old (λ input. IsRefused formulas input (error_of (files.Refused place reason)))
+    → OfInput old (λ input. IsLogRefused formulas input (error_of (files.Refused place reason)))
 long_refused formulas None new bytes place reason f long b =
     (head_line (length bytes) ++ (bytes ++ []), file bytes [] (files.Refused place reason) (parts_told bytes [] (omega (arith, f.few))) (bad place reason b))
 long_refused formulas (Some xs) None bytes place reason f long b = absurd (none_taken xs bytes f.mid f.stated f.head f.part)

@@ -12,14 +12,14 @@ use Rattle.abc_log.specs.declared.compare.Verdict.TheVariants as verdicts
 use Rattle.abc_file.specs.Reading.{IsUsedUp, OfInput}
 use Rattle.abc_log.specs.declared.limits.LimitsLine.{LimitsLine}
 use Rattle.abc_meaning.specs.Logs.{log, steps}
-use Rattle.abc_log.specs.Checks.{IsCompared, IsFaultOf}
+use Rattle.abc_log.specs.Checks.{IsCompared, IsLogFault}
 use Rattle.abc_log.specs.declared.check.LogFault.{LogFault}
 use Rattle.abc_log.specs.declared.check.LogFault.TheVariants as faults
 use Rattle.abc_log.proofs.Judging.{all_there, has_cause}
 use Rattle.abc_meaning.specs.Openings.{setting}
 use Rattle.abc_link_names.specs.Linked.{LinkedFile}
 use Rattle.abc_replay.specs.Prefaces.{AnswersLog, HasPreface, RefusesAny, error_of_log}
-use Rattle.abc_replay.specs.Replays.{IsRefusedBy, IsReplayed}
+use Rattle.abc_replay.specs.Replays.{IsLogRefusedBy, IsReplayed}
 use Rattle.abc_replay.specs.declared.error.ReplayError.{ReplayError}
 use Rattle.abc_replay.specs.declared.error.ReplayError.TheVariants as errors
 use Rattle.abc_replay.proofs.Found.{rose_before}
@@ -31,7 +31,7 @@ read_told place (faults.Differs n) same = absurd (cc)
 read_told place faults.ReadFault same = refl
 
 -- what is refused beside any host is refused beside this one
-pub any_refuses : (formulas : List Formula) (old : Option (List ℕ)) (e : ReplayError) → AreFormulas formulas → RefusesAny old e → OfInput old (λ input. IsRefusedBy formulas input e)
+pub any_refuses : (formulas : List Formula) (old : Option (List ℕ)) (e : ReplayError) → AreFormulas formulas → RefusesAny old e → OfInput old (λ input. IsLogRefusedBy formulas input e)
 unfolding RefusesAny
 any_refuses formulas old e formed refused = refused formulas formed
 
@@ -39,7 +39,7 @@ abbrev pub EndsSame : Verdict → (left new : Option (List ℕ)) → Result ℕ 
 EndsSame v left new r = IfOk r (λ _. (v ≡ verdicts.Same) × Consumes left new [] × IsAtEnd new)
 
 abbrev pub HasFault : (place : ℕ) → Verdict → (left : Option (List ℕ)) → (agreed : ℕ) → Result ℕ ReplayError → Type 0
-HasFault place v left agreed r = IfErr r (λ e. (f : LogFault) × (e ≡ error_of_log place f) × IsFaultOf v left agreed f)
+HasFault place v left agreed r = IfErr r (λ e. (f : LogFault) × (e ≡ error_of_log place f) × IsLogFault v left agreed f)
 
 module _ (formulas : List Formula) (old mid left new : Option (List ℕ)) (l : LinkedFile) (line : LimitsLine) (place k before faulty agreed : ℕ) (v : Verdict) (formed : AreFormulas formulas) (preface : HasPreface old mid l line place)
     (compared : IsCompared (log (setting l formulas) line.limits line.fuel) (steps (setting l formulas) line.limits line.fuel) k mid before left faulty agreed v) where
@@ -55,10 +55,10 @@ module _ (formulas : List Formula) (old mid left new : Option (List ℕ)) (l : L
       used_up old mid new l line place (log (setting l formulas) line.limits line.fuel) preface all.0 all.1
   is_used_up (Err e) end = tt
 
-  pub is_refused : (r : Result ℕ ReplayError) → HasFault place v left agreed r → IfErr r (λ e. OfInput old (λ input. IsRefusedBy formulas input e))
+  pub is_refused : (r : Result ℕ ReplayError) → HasFault place v left agreed r → IfErr r (λ e. OfInput old (λ input. IsLogRefusedBy formulas input e))
   is_refused (Ok n) fault = tt
   is_refused (Err e) fault =
-      subst (λ (x : ReplayError). OfInput old (λ input. IsRefusedBy formulas input x)) (sym fault.1)
+      subst (λ (x : ReplayError). OfInput old (λ input. IsLogRefusedBy formulas input x)) (sym fault.1)
       (refuses formulas old mid left l line place (steps (setting l formulas) line.limits line.fuel) k before faulty agreed v fault.0 formed preface compared fault.2)
 
   pub is_caused : (first now : ℕ) → first ≤ before → faulty ≤ now → (v ≡ verdicts.ReadFault) ⊎ Rose faulty now → Rose first now
@@ -76,7 +76,7 @@ module _ (formulas : List Formula) (mid left new : Option (List ℕ)) (l : Linke
     refused = λ old preface. is_refused formulas old mid left new l line place k before faulty agreed v formed preface compared r fault;
   }
 
-free : (formulas : List Formula) (old : Option (List ℕ)) → OfInput old (λ input. IsRefusedBy formulas input errors.NoMemory)
+free : (formulas : List Formula) (old : Option (List ℕ)) → OfInput old (λ input. IsLogRefusedBy formulas input errors.NoMemory)
 free formulas None = ([], tt)
 free formulas (Some input) = tt
 

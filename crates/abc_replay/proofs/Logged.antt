@@ -14,14 +14,14 @@ use Rattle.abc_heap_store.specs.declared.records.Limits.{Limits}
 use Rattle.abc_log.specs.declared.limits.LimitsLine.{LimitsLine}
 use Rattle.abc_log.specs.Lines.{AreLimits, head_line, limits_line}
 use Rattle.abc_meaning.specs.Logs.{log, steps}
-use Rattle.abc_log.specs.Checks.{IsCompared, IsFaultOf, PartsAt}
+use Rattle.abc_log.specs.Checks.{IsCompared, IsLogFault, PartsAt}
 use Rattle.abc_log.specs.declared.check.LogFault.{LogFault}
 use Rattle.abc_log.specs.declared.check.LogFault.TheVariants as faults
 use Rattle.abc_log.proofs.Judging.{at_place}
 use Rattle.abc_log.proofs.Parting.{front_parts, longer_parts}
 use Rattle.abc_link_names.specs.Linked.{LinkedFile}
 use Rattle.abc_replay.specs.Prefaces.{HasPreface, error_of_log}
-use Rattle.abc_replay.specs.Replays.{HasParts, IsRefusedBy, IsReplayed, SpellsVerified, differs, file_place, place_behind}
+use Rattle.abc_replay.specs.Replays.{HasLogParts, IsLogRefusedBy, IsReplayed, SpellsVerified, differs, file_place, place_behind}
 use Rattle.abc_replay.specs.declared.error.ReplayError.TheVariants as errors
 use Rattle.abc_replay.specs.declared.error.ReplayReason.TheVariants as reasons
 use Rattle.abc_replay.proofs.Inputs.{of_all, of_consumed, of_end, of_map}
@@ -30,7 +30,7 @@ use Rattle.abc_replay.proofs.Parts.{some_limits, spells_verified}
 
 -- ---- a log
 
-replayed : (formulas : List Formula) (l : LinkedFile) (bytes : List ℕ) (fuel : ℕ) (m : Limits) (n : ℕ) (input rest : List ℕ) → HasParts input bytes rest → SpellsVerified formulas bytes l → AreLimits fuel m
+replayed : (formulas : List Formula) (l : LinkedFile) (bytes : List ℕ) (fuel : ℕ) (m : Limits) (n : ℕ) (input rest : List ℕ) → HasLogParts input bytes rest → SpellsVerified formulas bytes l → AreLimits fuel m
     → rest ≡ limits_line fuel m ++ log (record { linked = l; formulas = formulas }) m fuel → n ≡ steps (record { linked = l; formulas = formulas }) m fuel → IsReplayed formulas input n
 replayed formulas l bytes fuel m n input rest parts spells limits e counted =
     let lines = log (record { linked = l; formulas = formulas }) m fuel in
@@ -88,7 +88,7 @@ goes_on lines start left agreed taken is more =
     (of_map left (λ (rest : List ℕ). rest ≢ []) (λ (rest : List ℕ). PartsAt lines agreed (lines ++ rest)) (λ rest some. at_place lines agreed (length lines) (lines ++ rest) (longer_parts 0 lines rest some ∙ ap Some (zero-add (length lines))) is) more)
 
 -- the verdict, or what follows, says where the bytes behind the line of limits part from the log
-judged : (lines : List ℕ) (counted n : ℕ) (start left : Option (List ℕ)) (before faulty agreed k : ℕ) (v : Verdict) → IsCompared lines counted n start before left faulty agreed v → IsFaultOf v left agreed (faults.Differs k) → OfInput start (PartsAt lines k)
+judged : (lines : List ℕ) (counted n : ℕ) (start left : Option (List ℕ)) (before faulty agreed k : ℕ) (v : Verdict) → IsCompared lines counted n start before left faulty agreed v → IsLogFault v left agreed (faults.Differs k) → OfInput start (PartsAt lines k)
 judged lines counted n start left before faulty agreed k verdicts.Same c f = subst (λ (j : ℕ). OfInput start (PartsAt lines j)) (sym f.0) (goes_on lines start left agreed c.is.0 c.is.1 (of_some left f.1))
 judged lines counted n start left before faulty agreed k (verdicts.Differs j) c f =
     let same : j ≡ k = cc in
@@ -111,19 +111,19 @@ unfolding place_behind
 same_place bytes line j k place at far = omega (arith, at, far)
 
 differs_there : (formulas : List Formula) (old left : Option (List ℕ)) (l : LinkedFile) (line : LimitsLine) (place k : ℕ) → AreFormulas formulas → HasPreface old left l line place
-    → OfInput left (PartsAt (log (record { linked = l; formulas = formulas }) line.limits line.fuel) k) → OfInput old (λ input. IsRefusedBy formulas input (errors.Refused (min (place + k) (2 ^ 64 - 1)) reasons.LogDiffers))
+    → OfInput left (PartsAt (log (record { linked = l; formulas = formulas }) line.limits line.fuel) k) → OfInput old (λ input. IsLogRefusedBy formulas input (errors.Refused (min (place + k) (2 ^ 64 - 1)) reasons.LogDiffers))
 differs_there formulas old left l line place k formed before parted =
     let lines = log (record { linked = l; formulas = formulas }) line.limits line.fuel in
     let behind : List ℕ = limits_line line.fuel line.limits in
-    lifted old before.mid before.bytes before.file (λ (input : List ℕ). IsRefusedBy formulas input (errors.Refused (min (place + k) (2 ^ 64 - 1)) reasons.LogDiffers)) (Differing lines behind k)
+    lifted old before.mid before.bytes before.file (λ (input : List ℕ). IsLogRefusedBy formulas input (errors.Refused (min (place + k) (2 ^ 64 - 1)) reasons.LogDiffers)) (Differing lines behind k)
     (λ input rest parts d.
     let there = from_place (parts_from 0 d.found lines) k d.at in
     let same : place_behind before.bytes (length behind + there.0) ≡ min (place + k) (2 ^ 64 - 1) = same_place before.bytes (length behind) there.0 k place before.begins there.1.1 in
-    subst (λ (n : ℕ). IsRefusedBy formulas input (errors.Refused n reasons.LogDiffers)) same
+    subst (λ (n : ℕ). IsLogRefusedBy formulas input (errors.Refused n reasons.LogDiffers)) same
     (differs before.bytes rest d.found l line.fuel line.limits there.0 parts (spells_verified formulas before.bytes l formed before.verified) before.limits d.is there.1.0))
     (of_consumed before.mid left behind (Differing lines behind k) before.taken (of_map left (PartsAt lines k) (λ (found : List ℕ). Differing lines behind k (behind ++ found)) (λ found at. record { found = found; is = refl; at = at }) parted))
 
 pub refuses : (formulas : List Formula) (old left now : Option (List ℕ)) (l : LinkedFile) (line : LimitsLine) (place counted n before faulty agreed : ℕ) (v : Verdict) (f : LogFault) → AreFormulas formulas → HasPreface old left l line place
-    → IsCompared (log (record { linked = l; formulas = formulas }) line.limits line.fuel) counted n left before now faulty agreed v → IsFaultOf v now agreed f → OfInput old (λ input. IsRefusedBy formulas input (error_of_log place f))
+    → IsCompared (log (record { linked = l; formulas = formulas }) line.limits line.fuel) counted n left before now faulty agreed v → IsLogFault v now agreed f → OfInput old (λ input. IsLogRefusedBy formulas input (error_of_log place f))
 refuses formulas old left now l line place counted n before faulty agreed v (faults.Differs k) formed preface c f = differs_there formulas old left l line place k formed preface (judged _ counted n left now before faulty agreed k v c f)
-refuses formulas old left now l line place counted n before faulty agreed v faults.ReadFault formed preface c f = of_all old (λ (input : List ℕ). IsRefusedBy formulas input errors.ReadFault) (λ input. tt)
+refuses formulas old left now l line place counted n before faulty agreed v faults.ReadFault formed preface c f = of_all old (λ (input : List ℕ). IsLogRefusedBy formulas input errors.ReadFault) (λ input. tt)

@@ -1,10 +1,10 @@
 -- What is refused within the greatest file is refused so whatever follows.
 use Rattle.std.proofs.Common.{◌≡◌, ◌≢◌, ℕ, zero, suc, ◌+◌, ◌-◌, ◌<◌, ◌≤◌, inl, inr, Bool, true, false, List, [], ◌∷◌, ◌++◌, length, refl, ap, ◌∙◌, append_assoc, length-append, arith}
 use Rattle.abc_file_types.specs.declared.reason.Reason.{Reason}
-use Rattle.abc_file_types.specs.Part.{At, Begins, Front, Part, Refusal, at, both, checked, done, image, limit, then_by, when}
+use Rattle.abc_file_types.specs.Part.{At, Begins, Front, Part, Refusal, at_of, both, with_test, known_value, image, limit, then_by, when}
 use Rattle.abc_file_types.specs.Numbers.{byte, index_below, number, pool_index, entry_index, s24, s32, u16, u30, u32, u8}
-use Rattle.abc_file_types.specs.Lists.{chain, counted, pool, pool_by, text, times}
-use Rattle.abc_file_types.specs.Ends.{blamed, capped, inside}
+use Rattle.abc_file_types.specs.Lists.{chain, count_and_items, pool, pool_by, bytes_with_count, times}
+use Rattle.abc_file_types.specs.Ends.{blame_first, within_next, inside}
 use Rattle.abc_file_types.specs.declared.names.MultinameKind.{MultinameKind}
 use Rattle.abc_file_types.specs.declared.names.MultinameKind.TheVariants as kinds
 use Rattle.abc_file_types.specs.declared.opcodes.Form.{Form}
@@ -17,7 +17,7 @@ use Rattle.abc_file_types.specs.Pools.{double, namespace_kind, namespace, namesp
 use Rattle.abc_file_types.specs.Methods.{value_kind, option_value, options, method, metadata}
 use Rattle.abc_file_types.specs.Traits.{trait_kind, slot_value, trait_fields, trait_info}
 use Rattle.abc_file_types.specs.Classes.{instance, class_info, script, definitions, sizes_of}
-use Rattle.abc_file_types.specs.Instructions.{opcode, signed_byte, signed_short, switch_offsets, operands, instruction, code_length}
+use Rattle.abc_file_types.specs.Instructions.{opcode_part, signed_byte, signed_short, switch_offsets, operand_parts, instruction, code_length}
 use Rattle.abc_file_types.specs.Places.{instruction_place}
 use Rattle.abc_file_types.specs.Code.{code, code_body}
 use Rattle.abc_file_types.specs.Bodies.{handler, body_method, body_with, body, body_list, bodies, bodies_alone, methods_of}
@@ -43,7 +43,7 @@ still_past from front after f past = omega (arith, f.place, ap length f.parts, l
 
 -- ---- each way to make a part
 
-done-stays : {A : Type 0} (x : A) → Stays (done x)
+done-stays : {A : Type 0} (x : A) → Stays (known_value x)
 done-stays x = record { bad = λ from more r low past b. absurd b }
 
 then-stays : {A B : Type 0} (p : Part A) (f : A → Part B) → Stays p → ((x : A) → Stays (f x)) → Stays (then_by p f)
@@ -60,7 +60,7 @@ both-stays p q sp sq = then-stays p (λ _. q) sp (λ _. sq)
 image-stays : {A B : Type 0} (f : A → B) (p : Part A) → Stays p → Stays (image f p)
 image-stays f p sp = record { bad = λ from more r low past b. sp.bad from more r low past b }
 
-checked-stays : {A : Type 0} (test : A → Bool) (reason : Reason) (p : Part A) → Stays p → Stays (checked test reason p)
+checked-stays : {A : Type 0} (test : A → Bool) (reason : Reason) (p : Part A) → Stays p → Stays (with_test test reason p)
 checked-stays test reason p sp = record {
   bad = λ from more r low past b. elim b [
     | inl h ↦ inl (sp.bad from more r low past h)
@@ -77,9 +77,9 @@ chain-stays zero p before sp = done-stays before
 chain-stays (suc n) p before sp = image-stays _ _ (then-stays (p before) _ (sp before) (λ x. chain-stays n p (before ++ x ∷ []) sp))
 
 inside-stays : {A : Type 0} (n : ℕ) (p : Part A) → Stays p → Stays (inside n p)
-inside-stays n p sp = record { bad = λ from more r low past b. sp.bad (capped n from) more r low past b }
+inside-stays n p sp = record { bad = λ from more r low past b. sp.bad (within_next n from) more r low past b }
 
-blamed-stays : {A : Type 0} (p : Part A) → Stays p → Stays (blamed p)
+blamed-stays : {A : Type 0} (p : Part A) → Stays p → Stays (blame_first p)
 blamed-stays p sp = record { bad = λ from more r low past b. (b.0, sp.bad from more b.0 low past b.1, b.2) }
 
 -- ---- bytes and numbers
@@ -150,8 +150,8 @@ entry_index-stays n = checked-stays _ _ u30 u30-stays
 
 -- ---- lists
 
-counted-stays : {A : Type 0} (p : Part A) → Stays p → Stays (counted p)
-unfolding counted
+counted-stays : {A : Type 0} (p : Part A) → Stays p → Stays (count_and_items p)
+unfolding count_and_items
 counted-stays p sp = image-stays _ _ (then-stays u30 (λ n. times n p) u30-stays (λ n. times-stays n p sp))
 
 pool_by-stays : {A : Type 0} (p : ℕ → Part A) → ((n : ℕ) → Stays (p n)) → Stays (pool_by p)
@@ -167,8 +167,8 @@ unfolding when
 when-stays true x p sp = sp
 when-stays false x p sp = done-stays x
 
-text-stays : Stays text
-unfolding text
+text-stays : Stays bytes_with_count
+unfolding bytes_with_count
 text-stays = counted-stays u8 u8-stays
 
 ruleset parts = (image-stays, then-stays, checked-stays, done-stays, times-stays, when-stays, counted-stays, pool-stays, u8-stays, u30-stays, u32-stays, s32-stays, index_below-stays, pool_index-stays, entry_index-stays, text-stays)
@@ -280,8 +280,8 @@ definitions-stays abc = search (parts, method-stays, metadata-stays, instance-st
 
 -- ---- code
 
-opcode-stays : Stays opcode
-unfolding opcode
+opcode-stays : Stays opcode_part
+unfolding opcode_part
 opcode-stays = image-stays _ _ (checked-stays _ _ _ u8-stays)
 
 signed_byte-stays : Stays signed_byte
@@ -296,7 +296,7 @@ switch_offsets-stays : Stays switch_offsets
 unfolding switch_offsets
 switch_offsets-stays = both-stays _ _ s24-stays (then-stays _ _ u30-stays (λ c. times-stays (c + 1) _ s24-stays))
 
-operands-stays : (op : ℕ) (form : Form) → Stays (operands op form)
+operands-stays : (op : ℕ) (form : Form) → Stays (operand_parts op form)
 operands-stays op forms.Plain = done-stays _
 operands-stays op forms.One = image-stays _ _ u30-stays
 operands-stays op forms.Two = image-stays _ _ (both-stays _ _ u30-stays u30-stays)
@@ -307,7 +307,7 @@ operands-stays op forms.Short = image-stays _ _ signed_short-stays
 operands-stays op forms.ScopeObject = image-stays _ _ u8-stays
 operands-stays op forms.Debug = image-stays _ _ (both-stays _ _ u8-stays (both-stays _ _ u30-stays (both-stays _ _ u8-stays u30-stays)))
 
-instruction-stays : Stays (blamed instruction)
+instruction-stays : Stays (blame_first instruction)
 unfolding instruction
 instruction-stays = blamed-stays _ (image-stays _ _ (then-stays _ _ opcode-stays (λ o. operands-stays o.0 o.1)))
 
@@ -327,7 +327,7 @@ code_body-stays n = record {
       filled = h.filled;
       is = Front-longer from h.front h.after more h.is;
       room = h.room;
-      bad = (inside-stays (n - length h.front) (blamed instruction) instruction-stays).bad h.after more r h.is.room (still_past from h.front h.after h.is past) h.bad;
+      bad = (inside-stays (n - length h.front) (blame_first instruction) instruction-stays).bad h.after more r h.is.room (still_past from h.front h.after h.is past) h.bad;
     })
     | inr a ↦ inr (record {
       pieces = a.pieces;
@@ -397,5 +397,5 @@ still_some (b ∷ bytes) more some = λ e. cc
 
 -- More bytes than the greatest file has are refused as they are with any others behind them.
 pub bad_longer : (bytes more : List ℕ) (r : Refusal) → limit < length bytes → IsBadFile bytes r → IsBadFile (bytes ++ more) r
-bad_longer bytes more r past (inl b) = inl (file-stays.bad (at 0 bytes) more r (omega arith) (omega (arith, past)) b)
-bad_longer bytes more r past (inr x) = inr (x.0, longer x.1 more, Begins-longer file (at 0 bytes) x.0 x.1 more x.2, still_some x.1.bytes more x.3, x.4)
+bad_longer bytes more r past (inl b) = inl (file-stays.bad (at_of 0 bytes) more r (omega arith) (omega (arith, past)) b)
+bad_longer bytes more r past (inr x) = inr (x.0, longer x.1 more, Begins-longer file (at_of 0 bytes) x.0 x.1 more x.2, still_some x.1.bytes more x.3, x.4)

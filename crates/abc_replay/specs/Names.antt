@@ -5,8 +5,8 @@ use Rattle.abc_replay.specs.declared.error.ReplayReason.{ReplayReason}
 use Rattle.abc_replay.specs.declared.error.ReplayReason.TheVariants as reasons
 
 -- the name of a reason why an input is no log of a run
-abbrev pub reason_name : ReplayReason → List ℕ
-reason_name (reasons.File reason) = file_reason_name reason
-reason_name reasons.LogHead = codes "LogHead"
-reason_name reasons.LogLimits = codes "LogLimits"
-reason_name reasons.LogDiffers = codes "LogDiffers"
+abbrev pub replay_reason_name : ReplayReason → List ℕ
+replay_reason_name (reasons.File reason) = file_reason_name reason
+replay_reason_name reasons.LogHead = codes "LogHead"
+replay_reason_name reasons.LogLimits = codes "LogLimits"
+replay_reason_name reasons.LogDiffers = codes "LogDiffers"

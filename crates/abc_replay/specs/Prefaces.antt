@@ -20,7 +20,7 @@ use Rattle.abc_link_names.specs.Linked.{LinkedFile}
 use Rattle.abc_file_types.specs.Files.{IsFile}
 use Rattle.abc_file_types.specs.Part.{limit}
 use Rattle.abc_verify.specs.Verified.{IsVerifiedOf}
-use Rattle.abc_replay.specs.Replays.{IsRefusedBy, IsReplayed, file_place}
+use Rattle.abc_replay.specs.Replays.{IsLogRefusedBy, IsReplayed, file_place}
 use Rattle.abc_replay.specs.declared.error.ReplayError.{ReplayError}
 use Rattle.abc_replay.specs.declared.error.ReplayError.TheVariants as errors
 use Rattle.abc_replay.specs.declared.error.ReplayReason.TheVariants as reasons
@@ -71,11 +71,11 @@ pub data TakesLog (old new : Option (List ℕ)) : Type 0 where
 pub record AnswersLog (formulas : List Formula) (left : Option (List ℕ)) (l : LinkedFile) (line : LimitsLine) (place : ℕ) (new : Option (List ℕ)) (result : Result ℕ ReplayError) : Type 0 where
   pub replayed : (old : Option (List ℕ)) → HasPreface old left l line place → IfOk result (λ n. OfInput old (λ input. IsReplayed formulas input n))
   pub end : (old : Option (List ℕ)) → HasPreface old left l line place → IfOk result (λ _. IsUsedUp old new)
-  pub refused : (old : Option (List ℕ)) → HasPreface old left l line place → IfErr result (λ e. OfInput old (λ input. IsRefusedBy formulas input e))
+  pub refused : (old : Option (List ℕ)) → HasPreface old left l line place → IfErr result (λ e. OfInput old (λ input. IsLogRefusedBy formulas input e))
 
 -- why an input is refused, beside any host
 unfoldable pub RefusesAny : Option (List ℕ) → ReplayError → Type 0
-RefusesAny left e = (formulas : List Formula) → AreFormulas formulas → OfInput left (λ input. IsRefusedBy formulas input e)
+RefusesAny left e = (formulas : List Formula) → AreFormulas formulas → OfInput left (λ input. IsLogRefusedBy formulas input e)
 
 -- no line of limits stands at this place, or a read failed
 abbrev pub IsNoLine : Option (List ℕ) → (place : ℕ) → ReplayError → Type 0

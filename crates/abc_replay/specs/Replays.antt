@@ -8,11 +8,11 @@ use Rattle.abc_log.specs.Limits.{HasNoLimits}
 use Rattle.abc_log.specs.Lines.{AreLimits, head_line, limits_line}
 use Rattle.abc_meaning.specs.Inputs.{IsLogOf}
 use Rattle.abc_meaning.specs.Logs.{log, steps}
-use Rattle.abc_meaning.specs.ThrowLaws.{IsVerified}
+use Rattle.abc_meaning.specs.ThrowLaws.{IsVerifiedSetting}
 use Rattle.abc_link_names.specs.Linked.{LinkedFile}
 use Rattle.abc_file_types.specs.Files.{IsFile}
-use Rattle.abc_link_layouts.specs.Numbering.{IsNumbered}
-use Rattle.abc_verify.specs.FileRefusing.{IsRefused as IsNoVerifiedFile}
+use Rattle.abc_link_layouts.specs.Numbering.{HasLayoutNumbers}
+use Rattle.abc_verify.specs.FileRefusing.{IsFileRefused as IsNoVerifiedFile}
 use Rattle.abc_verify.specs.declared.verified_error.VerifiedError.{VerifiedError}
 use Rattle.abc_verify.specs.declared.verified_error.VerifiedError.TheVariants as files
 use Rattle.abc_replay.specs.declared.error.ReplayError.{ReplayError}
@@ -32,7 +32,7 @@ pub record IsReplayed (formulas : List Formula) (input : List ℕ) (n : ℕ) : T
 -- ---- the parts of an input
 
 -- the input begins with a line that states a length; of what follows that the file has so many bytes, or all where there are fewer
-pub record HasParts (input file rest : List ℕ) : Type 0 where
+pub record HasLogParts (input file rest : List ℕ) : Type 0 where
   pub stated : ℕ
   pub following : List ℕ
   pub low : stated < 2 ^ 32
@@ -43,8 +43,8 @@ pub record HasParts (input file rest : List ℕ) : Type 0 where
 -- the bytes spell a file, which is verified
 pub record SpellsVerified (formulas : List Formula) (file : List ℕ) (l : LinkedFile) : Type 0 where
   pub spells : IsFile l.file file
-  pub verified : IsVerified (record { linked = l; formulas = formulas })
-  pub numbered : IsNumbered l
+  pub verified : IsVerifiedSetting (record { linked = l; formulas = formulas })
+  pub numbered : HasLayoutNumbers l
 
 -- ---- places, which stand still at 2^64 - 1
 
@@ -68,15 +68,15 @@ error_of files.NoMemory = errors.NoMemory
 
 -- Why an input is no log, in the order of the input: the line before the file is wrong; the bytes of the file are no verified one;
 -- there is no line of limits behind them; or what follows is not the log of them.
-pub data IsRefused (formulas : List Formula) (input : List ℕ) : ReplayError → Type 0 where
-  head : (place : ℕ) → GoesWrong 0 place input → IsRefused formulas input (errors.Refused place reasons.LogHead)
-  file : (bytes rest : List ℕ) (e : VerifiedError) → HasParts input bytes rest → IsNoVerifiedFile bytes e → IsRefused formulas input (error_of e)
-  limits : (bytes rest : List ℕ) (l : LinkedFile) → HasParts input bytes rest → SpellsVerified formulas bytes l → HasNoLimits rest → IsRefused formulas input (errors.Refused (place_behind bytes 0) reasons.LogLimits)
-  differs : (bytes rest found : List ℕ) (l : LinkedFile) (fuel : ℕ) (m : Limits) (n : ℕ) → HasParts input bytes rest → SpellsVerified formulas bytes l → AreLimits fuel m → rest ≡ limits_line fuel m ++ found
-      → parts_from 0 found (log (record { linked = l; formulas = formulas }) m fuel) ≡ Some n → IsRefused formulas input (errors.Refused (place_behind bytes (length (limits_line fuel m) + n)) reasons.LogDiffers)
+pub data IsLogRefused (formulas : List Formula) (input : List ℕ) : ReplayError → Type 0 where
+  head : (place : ℕ) → GoesWrong 0 place input → IsLogRefused formulas input (errors.Refused place reasons.LogHead)
+  file : (bytes rest : List ℕ) (e : VerifiedError) → HasLogParts input bytes rest → IsNoVerifiedFile bytes e → IsLogRefused formulas input (error_of e)
+  limits : (bytes rest : List ℕ) (l : LinkedFile) → HasLogParts input bytes rest → SpellsVerified formulas bytes l → HasNoLimits rest → IsLogRefused formulas input (errors.Refused (place_behind bytes 0) reasons.LogLimits)
+  differs : (bytes rest found : List ℕ) (l : LinkedFile) (fuel : ℕ) (m : Limits) (n : ℕ) → HasLogParts input bytes rest → SpellsVerified formulas bytes l → AreLimits fuel m → rest ≡ limits_line fuel m ++ found
+      → parts_from 0 found (log (record { linked = l; formulas = formulas }) m fuel) ≡ Some n → IsLogRefused formulas input (errors.Refused (place_behind bytes (length (limits_line fuel m) + n)) reasons.LogDiffers)
 
 -- the same of an answer, where want of memory is free, and a failed read has another cause
-abbrev pub IsRefusedBy : List Formula → List ℕ → ReplayError → Type 0
-IsRefusedBy formulas input errors.NoMemory = Unit {0}
-IsRefusedBy formulas input errors.ReadFault = Unit {0}
-IsRefusedBy formulas input e = IsRefused formulas input e
+abbrev pub IsLogRefusedBy : List Formula → List ℕ → ReplayError → Type 0
+IsLogRefusedBy formulas input errors.NoMemory = Unit {0}
+IsLogRefusedBy formulas input errors.ReadFault = Unit {0}
+IsLogRefusedBy formulas input e = IsLogRefused formulas input e

@@ -3,10 +3,10 @@ ghost use Rattle.std.specs.Io.KnownBytes.{Consumes, IsAtEnd};
 ghost use Rattle.abc_base.specs.Faults.{Rose};
 ghost use Rattle.abc_log.specs.declared.compare.Verdict.TheVariants as verdicts;
 ghost use Rattle.abc_file.specs.Reading.{IsUsedUp, OfInput};
-ghost use Rattle.abc_log.specs.Checks.{IsFaultOf};
+ghost use Rattle.abc_log.specs.Checks.{IsLogFault};
 ghost use Rattle.abc_log.specs.declared.check.LogFault.{LogFault};
 ghost use Rattle.abc_replay.specs.Prefaces.{AnswersLog, TakesLog, error_of_log};
-ghost use Rattle.abc_replay.specs.Replays.{IsRefusedBy, IsReplayed};
+ghost use Rattle.abc_replay.specs.Replays.{IsLogRefusedBy, IsReplayed};
 ghost use Rattle.abc_replay.specs.declared.error.ReplayError.{ReplayError};
 
 use crate::error::ReplayError;
@@ -27,10 +27,13 @@ fn judge<S: Source>(
     agreed: u64,
 ) -> Result<u64, ReplayError>
     ensures steps { IfOk result (λ n. n ≡ steps) }
-    ensures end { IfOk result (λ _. (verdict ≡ verdicts.Same) × Consumes (S.left source.old) (S.left source.new) [] × IsAtEnd (S.left source.new)) }
-    ensures fault { IfErr result (λ e. (f : LogFault) × (e ≡ error_of_log place f) × IsFaultOf verdict (S.left source.old) agreed f) }
+    ensures end { IfOk result (λ _. (verdict ≡ verdicts.Same)
+        × Consumes (S.left source.old) (S.left source.new) [] × IsAtEnd (S.left source.new)) }
+    ensures fault { IfErr result
+        (λ e. (f : LogFault) × (e ≡ error_of_log place f) × IsLogFault verdict (S.left source.old) agreed f) }
     ensures later { S.faults source.old ≤ S.faults source.new }
-    ensures cause { result ≡ Err ReplayError.ReadFault → (verdict ≡ verdicts.ReadFault) ⊎ Rose (S.faults source.old) (S.faults source.new) }
+    ensures cause { result ≡ Err ReplayError.ReadFault
+        → (verdict ≡ verdicts.ReadFault) ⊎ Rose (S.faults source.old) (S.faults source.new) }
 {
     match check_verdict(source, verdict, agreed) {
         Ok(()) => Ok(steps),
@@ -45,7 +48,8 @@ fn check_log<S: Source, H: Host>(
     source: &mut S,
     host: &H,
 ) -> Result<u64, ReplayError>
-    ensures answers { AnswersLog (H.formulas host.now) (S.left source.old) preface.verified preface.line preface.place (S.left source.new) result }
+    ensures answers { AnswersLog (H.formulas host.now) (S.left source.old) preface.verified preface.line
+        preface.place (S.left source.new) result }
     ensures later { S.faults source.old ≤ S.faults source.new }
     ensures cause { result ≡ Err ReplayError.ReadFault → Rose (S.faults source.old) (S.faults source.new) }
 {
@@ -67,9 +71,11 @@ fn check_ahead<'a, S: Source, H: Host, N: SourceLoan>(
     host: &H,
 ) -> (&'a mut S, Result<u64, ReplayError>)
     requires { source.ghost_name ≡ N.name }
-    ensures answers { AnswersLog (H.formulas host.now) (S.left source.old) preface.verified preface.line preface.place (S.left result.0.now) result.1 }
+    ensures answers { AnswersLog (H.formulas host.now) (S.left source.old) preface.verified preface.line
+        preface.place (S.left result.0.now) result.1 }
     ensures later { S.faults source.old ≤ S.faults result.0.now }
-    ensures cause { result.1 ≡ Err ReplayError.ReadFault → Rose (S.faults source.old) (S.faults result.0.now) }
+    ensures cause { result.1 ≡ Err ReplayError.ReadFault
+        → Rose (S.faults source.old) (S.faults result.0.now) }
     ensures same { result.0.ghost_name ≡ source.entry.ghost_name }
 {
     let mut ahead = BlockSource::<S, N>::new(source);
@@ -84,7 +90,8 @@ fn check_in_blocks<S: Source, H: Host>(
     source: &mut S,
     host: &H,
 ) -> Result<u64, ReplayError>
-    ensures answers { AnswersLog (H.formulas host.now) (S.left source.old) preface.verified preface.line preface.place (S.left source.new) result }
+    ensures answers { AnswersLog (H.formulas host.now) (S.left source.old) preface.verified preface.line
+        preface.place (S.left source.new) result }
     ensures later { S.faults source.old ≤ S.faults source.new }
     ensures cause { result ≡ Err ReplayError.ReadFault → Rose (S.faults source.old) (S.faults source.new) }
 {
@@ -101,9 +108,11 @@ pub fn replay<S: Source, H: Host>(
     source: &mut S,
     host: &H,
 ) -> Result<u64, ReplayError>
-    ensures replayed { IfOk result (λ n. OfInput (S.left source.old) (λ input. IsReplayed (H.formulas host.now) input n)) }
+    ensures replayed { IfOk result
+        (λ n. OfInput (S.left source.old) (λ input. IsReplayed (H.formulas host.now) input n)) }
     ensures end { IfOk result (λ _. IsUsedUp (S.left source.old) (S.left source.new)) }
-    ensures refused { IfErr result (λ e. OfInput (S.left source.old) (λ input. IsRefusedBy (H.formulas host.now) input e)) }
+    ensures refused { IfErr result
+        (λ e. OfInput (S.left source.old) (λ input. IsLogRefusedBy (H.formulas host.now) input e)) }
     ensures taken { TakesLog (S.left source.old) (S.left source.new) }
     ensures later { S.faults source.old ≤ S.faults source.new }
     ensures cause { result ≡ Err ReplayError.ReadFault → Rose (S.faults source.old) (S.faults source.new) }

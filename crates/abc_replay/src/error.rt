@@ -1,5 +1,5 @@
 ghost use Rattle.std.specs.Prelude.{◌≡◌};
-ghost use Rattle.abc_replay.specs.Names.{reason_name};
+ghost use Rattle.abc_replay.specs.Names.{replay_reason_name};
 ghost use Rattle.abc_replay.specs.Prefaces.{error_of_head, error_of_part};
 ghost use Rattle.abc_replay.specs.Replays.{error_of};
 ghost use Rattle.abc_replay.specs.declared.error.ReplayError.TheVariants as errors;
@@ -28,7 +28,7 @@ pub enum ReplayReason {
 impl ReplayReason {
     /// The reason's name, as error lines show it.
     pub fn name(&self) -> &[u8]
-        ensures { result.now ≡ reason_name self.now }
+        ensures { result.now ≡ replay_reason_name self.now }
     {
         match self {
             ReplayReason::File(reason) => reason.name(),

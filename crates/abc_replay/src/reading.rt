@@ -5,7 +5,7 @@ ghost use Rattle.abc_base.specs.Taking.{TakesAtMost};
 ghost use Rattle.abc_log.specs.Lines.{AreLimits, limits_line};
 ghost use Rattle.abc_replay.specs.Prefaces.{HasFront, HasPreface, IsNoLine, IsVerifiedIn, RefusesAny, error_of_log};
 ghost use Rattle.abc_replay.specs.declared.error.ReplayError.{ReplayError};
-ghost use Rattle.abc_verify.specs.FileRefusing.{IsRefusedBy};
+ghost use Rattle.abc_verify.specs.FileRefusing.{IsFileRefusedBy};
 ghost use Rattle.abc_verify.specs.declared.verified_error.VerifiedError.{VerifiedError};
 
 use crate::error::{ReplayError, ReplayReason};
@@ -31,7 +31,7 @@ pub struct Preface {
 /// The file that a source in memory gives, linked and verified, or why there is none.
 fn verified_from(alloc: Global, source: &mut SteadySource) -> Result<Verified, VerifiedError>
     ensures ok { IfOk result (IsVerifiedIn source.old.left) }
-    ensures refused { IfErr result (IsRefusedBy source.old.left) }
+    ensures refused { IfErr result (IsFileRefusedBy source.old.left) }
     ensures read { result ≡ Err VerifiedError.ReadFault → ⊥ }
 {
     match read_verified(alloc, source) {
@@ -43,7 +43,7 @@ fn verified_from(alloc: Global, source: &mut SteadySource) -> Result<Verified, V
 /// The file that bytes spell, linked and verified, or why there is none.
 fn verified_in(alloc: Global, bytes: &[u8]) -> Result<Verified, VerifiedError>
     ensures ok { IfOk result (IsVerifiedIn bytes.now) }
-    ensures refused { IfErr result (IsRefusedBy bytes.now) }
+    ensures refused { IfErr result (IsFileRefusedBy bytes.now) }
     ensures read { result ≡ Err VerifiedError.ReadFault → ⊥ }
 {
     match SteadySource::new(alloc, bytes, PIECE) {
@@ -54,7 +54,8 @@ fn verified_in(alloc: Global, bytes: &[u8]) -> Result<Verified, VerifiedError>
 
 /// The line of limits, which begins at this place.
 fn read_line<S: Source>(source: &mut S, place: u64) -> Result<LimitsLine, ReplayError>
-    ensures line { IfOk result (λ x. Consumes (S.left source.old) (S.left source.new) (limits_line x.fuel x.limits)) }
+    ensures line { IfOk result
+        (λ x. Consumes (S.left source.old) (S.left source.new) (limits_line x.fuel x.limits)) }
     ensures limits { IfOk result (λ x. AreLimits x.fuel x.limits) }
     ensures long { IfOk result (λ x. x.length ≡ length (limits_line x.fuel x.limits)) }
     ensures few { IfOk result (λ x. x.length ≤ 64) }
@@ -104,7 +105,8 @@ fn with_line(
 ) -> Result<Preface, ReplayError>
     requires low { place < 2 ^ 33 }
     requires few { IfOk line (λ x. x.length ≤ 64) }
-    ensures ok { IfOk line (λ x. result ≡ Ok (record { verified = verified; line = x; place = place + x.length })) }
+    ensures ok { IfOk line
+        (λ x. result ≡ Ok (record { verified = verified; line = x; place = place + x.length })) }
     ensures err { IfErr line (λ e. result ≡ Err e) }
 {
     match line {
@@ -124,7 +126,8 @@ fn with_line(
 /// file is refused, linked or verified not, or there is no line of limits behind it. `ReadFault` comes only where the source's count
 /// of faults rose. At most 2^24 + 74 bytes are taken, whatever is answered.
 pub fn read_preface<S: Source>(alloc: Global, source: &mut S) -> Result<Preface, ReplayError>
-    ensures preface { IfOk result (λ p. HasPreface (S.left source.old) (S.left source.new) p.verified p.line p.place) }
+    ensures preface { IfOk result
+        (λ p. HasPreface (S.left source.old) (S.left source.new) p.verified p.line p.place) }
     ensures refused { IfErr result (RefusesAny (S.left source.old)) }
     ensures taken { TakesAtMost (S.left source.old) (S.left source.new) (2 ^ 24 + 74) }
     ensures later { S.faults source.old ≤ S.faults source.new }

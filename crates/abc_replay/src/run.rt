@@ -18,7 +18,9 @@ use std::alloc::Global;
 fn log_run<K: Sink, H: Host>(machine: &mut Machine, fuel: u32, log: &mut K, host: &H) -> u64
     requires begun { machine.old.ended ≡ None }
     requires names { formula_names (H.formulas host.now) ≡ machine.old.names }
-    ensures { IsWritten (log_of (setting machine.old.linked (H.formulas host.now)) machine.old.limits fuel) (steps_of (setting machine.old.linked (H.formulas host.now)) machine.old.limits fuel) result (K.written log.old) (K.written log.new) (K.faults log.old) (K.faults log.new) }
+    ensures { IsWritten (log_of (setting machine.old.linked (H.formulas host.now)) machine.old.limits fuel)
+        (steps_of (setting machine.old.linked (H.formulas host.now)) machine.old.limits fuel) result
+        (K.written log.old) (K.written log.new) (K.faults log.old) (K.faults log.new) }
 {
     machine.run_logged(fuel, log, host);
     u64::from(machine.steps())
@@ -28,7 +30,9 @@ fn log_run<K: Sink, H: Host>(machine: &mut Machine, fuel: u32, log: &mut K, host
 fn log_machine<K: Sink, H: Host>(machine: Machine, fuel: u32, log: &mut K, host: &H) -> u64
     requires begun { machine.ended ≡ None }
     requires names { formula_names (H.formulas host.now) ≡ machine.names }
-    ensures { IsWritten (log_of (setting machine.linked (H.formulas host.now)) machine.limits fuel) (steps_of (setting machine.linked (H.formulas host.now)) machine.limits fuel) result (K.written log.old) (K.written log.new) (K.faults log.old) (K.faults log.new) }
+    ensures { IsWritten (log_of (setting machine.linked (H.formulas host.now)) machine.limits fuel)
+        (steps_of (setting machine.linked (H.formulas host.now)) machine.limits fuel) result
+        (K.written log.old) (K.written log.new) (K.faults log.old) (K.faults log.new) }
 {
     let mut machine = machine;
     let count = log_run(&mut machine, fuel, log, host);
@@ -38,7 +42,8 @@ fn log_machine<K: Sink, H: Host>(machine: Machine, fuel: u32, log: &mut K, host:
 
 /// Writes the log of a run that isn't begun: its one line. There is no step.
 fn log_unbegun<K: Sink>(log: &mut K, limit: Limit) -> u64
-    ensures { IsWritten (limit_end limit) 0 result (K.written log.old) (K.written log.new) (K.faults log.old) (K.faults log.new) }
+    ensures { IsWritten (limit_end limit) 0 result (K.written log.old) (K.written log.new) (K.faults log.old)
+        (K.faults log.new) }
 {
     let _ = write_limit_end(log, limit);
     0
@@ -52,7 +57,10 @@ fn write_log<K: Sink, H: Host>(
     log: &mut K,
     host: &H,
 ) -> Result<u64, NoMemory>
-    ensures written { IfOk result (λ n. IsWritten (log_of (setting verified (H.formulas host.now)) (line.now).limits (line.now).fuel) (steps_of (setting verified (H.formulas host.now)) (line.now).limits (line.now).fuel) n (K.written log.old) (K.written log.new) (K.faults log.old) (K.faults log.new)) }
+    ensures written { IfOk result (λ n. IsWritten
+        (log_of (setting verified (H.formulas host.now)) (line.now).limits (line.now).fuel)
+        (steps_of (setting verified (H.formulas host.now)) (line.now).limits (line.now).fuel) n
+        (K.written log.old) (K.written log.new) (K.faults log.old) (K.faults log.new)) }
     ensures none { OnErr result (log.new ≡ log.old) }
 {
     too_small_is_one_line();
@@ -79,7 +87,11 @@ fn compare_lent<'a, S: Source, H: Host>(
     source: &'a mut S,
     host: &H,
 ) -> (&'a mut S, Compared)
-    ensures compared { IfOk result.1.steps (λ n. IsCompared (log_of (setting verified (H.formulas host.now)) (line.now).limits (line.now).fuel) (steps_of (setting verified (H.formulas host.now)) (line.now).limits (line.now).fuel) n (S.left source.old) (S.faults source.old) (S.left result.0.now) (S.faults result.0.now) result.1.agreed result.1.verdict) }
+    ensures compared { IfOk result.1.steps (λ n. IsCompared
+        (log_of (setting verified (H.formulas host.now)) (line.now).limits (line.now).fuel)
+        (steps_of (setting verified (H.formulas host.now)) (line.now).limits (line.now).fuel) n
+        (S.left source.old) (S.faults source.old) (S.left result.0.now) (S.faults result.0.now)
+        result.1.agreed result.1.verdict) }
     ensures later { S.faults source.old ≤ S.faults result.0.now }
     ensures same { result.0.ghost_name ≡ source.entry.ghost_name }
 {
@@ -105,7 +117,11 @@ pub(crate) fn compare_log<S: Source, H: Host>(
     source: &mut S,
     host: &H,
 ) -> Compared
-    ensures compared { IfOk result.steps (λ n. IsCompared (log_of (setting verified (H.formulas host.now)) (line.now).limits (line.now).fuel) (steps_of (setting verified (H.formulas host.now)) (line.now).limits (line.now).fuel) n (S.left source.old) (S.faults source.old) (S.left source.new) (S.faults source.new) result.agreed result.verdict) }
+    ensures compared { IfOk result.steps (λ n. IsCompared
+        (log_of (setting verified (H.formulas host.now)) (line.now).limits (line.now).fuel)
+        (steps_of (setting verified (H.formulas host.now)) (line.now).limits (line.now).fuel) n
+        (S.left source.old) (S.faults source.old) (S.left source.new) (S.faults source.new) result.agreed
+        result.verdict) }
     ensures later { S.faults source.old ≤ S.faults source.new }
 {
     let lent = compare_lent(alloc, verified, line, source, host);

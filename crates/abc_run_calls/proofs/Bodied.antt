@@ -6,7 +6,7 @@ use Rattle.abc_link_names.specs.PartsByNumber.{body_at, no_body, no_script, scri
 use Rattle.abc_link_names.specs.Owners.{body_of}
 use Rattle.abc_link_names.proofs.MethodBodies.{body_inside}
 use Rattle.abc_frames.specs.declared.records.Size.{Size}
-use Rattle.abc_run_state.specs.Turns.{kept}
+use Rattle.abc_run_state.specs.Turns.{size_of_routine}
 use Rattle.abc_file_types.specs.declared.classes.Script.{Script}
 use Rattle.abc_file_types.specs.declared.code.Body.{Body}
 use Rattle.abc_file_types.specs.declared.tables.Abc.{Abc}
@@ -18,10 +18,10 @@ sized b n = record { locals = b.local_count; stack = b.max_stack; scopes = n }
 abbrev pub size_in : Body → Size
 size_in b = sized b (b.max_scope - b.init_scope)
 
-pub size_is : (p : Setting) (n b : ℕ) (body : Body) → body_of p.linked.file n ≡ Some b → get_or p.linked.file.bodies b body ≡ body → size_in body ≡ kept (routine_of p n)
+pub size_is : (p : Setting) (n b : ℕ) (body : Body) → body_of p.linked.file n ≡ Some b → get_or p.linked.file.bodies b body ≡ body → size_in body ≡ size_of_routine (routine_of p n)
 size_is p n b body e is =
     let same : body_at p.linked.file b ≡ body = get_or_default p.linked.file.bodies b no_body body (body_inside p.linked.file n b e) ∙ is in
-    sym (ap (λ x. kept (routine_in p x)) e ∙ ap size_in same)
+    sym (ap (λ x. size_of_routine (routine_in p x)) e ∙ ap size_in same)
 
 -- ---- the init of a script
 

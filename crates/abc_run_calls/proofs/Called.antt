@@ -19,7 +19,7 @@ use Rattle.abc_meaning.specs.Calling.{calls, calls_what, this_of}
 use Rattle.abc_meaning.specs.Making.{new, new_what}
 use Rattle.abc_meaning.specs.Objects.{place}
 use Rattle.abc_meaning.specs.Setting.{Setting, type_of_host}
-use Rattle.abc_meaning.specs.World.{World, object}
+use Rattle.abc_meaning.specs.World.{World, object_named}
 use Rattle.abc_run_calls.proofs.Opened.{some_is}
 use Rattle.abc_run_calls.specs.Calls.{calls_object, coerces_only, enters_settled}
 
@@ -28,13 +28,13 @@ use Rattle.abc_run_calls.specs.Calls.{calls_object, coerces_only, enters_settled
 pub called_is : (p : Setting) (o : ObjId) (what : What) (v receiver : Value) (args : List Value) (w : World) → v ≡ values.Obj o → o.0 < length w.heap.objects → what ≡ (object_at w.heap.objects o.0).what → calls p v receiver args w ≡ calls_what p what receiver args w
 called_is p o what v receiver args w e lt is =
     ap (λ x. calls p x receiver args w) e
-    ∙ some_is (object o w) (object_at w.heap.objects o.0) (λ ob. calls_what p ob.what receiver args) w (object_is w.heap.objects o.0 lt)
+    ∙ some_is (object_named o w) (object_at w.heap.objects o.0) (λ ob. calls_what p ob.what receiver args) w (object_is w.heap.objects o.0 lt)
     ∙ ap (λ x. calls_what p x receiver args w) (sym is)
 
 pub made_of_is : (p : Setting) (o : ObjId) (what : What) (v : Value) (args : List Value) (w : World) → v ≡ values.Obj o → o.0 < length w.heap.objects → what ≡ (object_at w.heap.objects o.0).what → new p v args w ≡ new_what p o what args w
 made_of_is p o what v args w e lt is =
     ap (λ x. new p x args w) e
-    ∙ some_is (object o w) (object_at w.heap.objects o.0) (λ ob. new_what p o ob.what args) w (object_is w.heap.objects o.0 lt)
+    ∙ some_is (object_named o w) (object_at w.heap.objects o.0) (λ ob. new_what p o ob.what args) w (object_is w.heap.objects o.0 lt)
     ∙ ap (λ x. new_what p o x args w) (sym is)
 
 -- what it names is there

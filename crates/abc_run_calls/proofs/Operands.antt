@@ -12,7 +12,7 @@ use Rattle.abc_file_types.specs.Methods.{has_flag}
 use Rattle.abc_file_types.specs.declared.methods.Method.{Method}
 use Rattle.abc_meaning.specs.Entering.{array_of, extra}
 use Rattle.abc_meaning.specs.Setting.{Setting}
-use Rattle.abc_meaning.specs.World.{World, done}
+use Rattle.abc_meaning.specs.World.{World, pure}
 
 pub count_given : (f : Frame) (n : ℕ) → n ≤ length f.stack → length (arguments n f) ≡ n
 count_given f n h = length-reverse (take n f.stack) ∙ length-take-le n f.stack h
@@ -52,5 +52,5 @@ dropped_given f n k h = elim (cases_lt n k) [ inl lt ↦ past lt | inr le ↦ wi
 
 pub rest_is : (p : Setting) (m : Method) (f : Frame) (count more : ℕ) (w : World) → has_flag m.flags 0x04 ≡ true → count ≤ length f.stack → more ≡ count - length m.params → extra p m (arguments count f) w ≡ array_of p (arguments more f) w
 rest_is p m f count more w e le is =
-    ap (λ (b : Bool). (if b then array_of p (drop (length m.params) (arguments count f)) else (if has_flag m.flags 0x01 then array_of p (arguments count f) else done [])) w) e
+    ap (λ (b : Bool). (if b then array_of p (drop (length m.params) (arguments count f)) else (if has_flag m.flags 0x01 then array_of p (arguments count f) else pure [])) w) e
     ∙ ap (λ (vs : List Value). array_of p vs w) (dropped_given f count (length m.params) le ∙ ap (λ n. arguments n f) (sym is))

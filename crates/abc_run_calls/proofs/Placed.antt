@@ -12,8 +12,8 @@ use Rattle.abc_heap_store.specs.declared.records.What.{What}
 use Rattle.abc_heap_store.specs.declared.records.What.TheVariants as whats
 use Rattle.abc_objects.proofs.Reshaped.{object_there}
 use Rattle.abc_run_state.specs.Stops.{IsOpen}
-use Rattle.abc_meaning.specs.Objects.{Place, class_object, flat, instances_of, kept_by, statics_of}
-use Rattle.abc_meaning.specs.World.{Outcome, Run, World, and_then, object, some, the, ◌>>=◌}
+use Rattle.abc_meaning.specs.Objects.{Place, class_object, flat_value, instances_of, place_kept_by, statics_of}
+use Rattle.abc_meaning.specs.World.{Outcome, Run, World, and_then, object_named, some, the, ◌>>=◌}
 use Rattle.abc_run_calls.proofs.Opened.{some_is}
 
 abbrev Keeps : Type 0
@@ -24,27 +24,27 @@ abbrev kept_in : Keeps → Object → Run Place
 kept_in which ob = some (which ob.what)
 
 abbrev kept_at : Keeps → ObjId → Run Place
-kept_at which o = the (object o) >>= kept_in which
+kept_at which o = the (object_named o) >>= kept_in which
 
 -- ---- the class object is there
 
-pub class_counted : (which : Keeps) (k : ℕ) (w : World) → IsOpen (kept_by which k w) → k < length w.heap.classes
+pub class_counted : (which : Keeps) (k : ℕ) (w : World) → IsOpen (place_kept_by which k w) → k < length w.heap.classes
 class_counted which k w h = elim (cases_lt k (length w.heap.classes)) [ inl lt ↦ lt | inr ge ↦ absurd (past ge) ]
   where
     past : length w.heap.classes ≤ k → ⊥
-    past ge = subst (λ (x : Option (Option ObjId)). IsOpen (and_then (some (flat x) w) (kept_at which))) (slice_get_past w.heap.classes k ge) h
+    past ge = subst (λ (x : Option (Option ObjId)). IsOpen (and_then (some (flat_value x) w) (kept_at which))) (slice_get_past w.heap.classes k ge) h
 
-flat_is : (os : List (Option ObjId)) (k : ℕ) → flat (slice_get os k) ≡ get_or os k None
+flat_is : (os : List (Option ObjId)) (k : ℕ) → flat_value (slice_get os k) ≡ get_or os k None
 flat_is [] k = refl
 flat_is (o ∷ os) zero = refl
 flat_is (o ∷ os) (suc k) = flat_is os k
 
-class_found : (which : Keeps) (k : ℕ) (w : World) (o : ObjId) → Some o ≡ get_or w.heap.classes k None → kept_by which k w ≡ kept_at which o w
+class_found : (which : Keeps) (k : ℕ) (w : World) (o : ObjId) → Some o ≡ get_or w.heap.classes k None → place_kept_by which k w ≡ kept_at which o w
 class_found which k w o e = some_is (class_object k w) o (kept_at which) w (flat_is w.heap.classes k ∙ sym e)
 
 -- ---- and is an object
 
-pub class_inside : (which : Keeps) (k : ℕ) (w : World) (o : ObjId) → Some o ≡ get_or w.heap.classes k None → IsOpen (kept_by which k w) → o.0 < length w.heap.objects
+pub class_inside : (which : Keeps) (k : ℕ) (w : World) (o : ObjId) → Some o ≡ get_or w.heap.classes k None → IsOpen (place_kept_by which k w) → o.0 < length w.heap.objects
 class_inside which k w o e h = elim (cases_lt o.0 (length w.heap.objects)) [ inl lt ↦ lt | inr ge ↦ absurd (past ge) ]
   where
     past : length w.heap.objects ≤ o.0 → ⊥
@@ -52,11 +52,11 @@ class_inside which k w o e h = elim (cases_lt o.0 (length w.heap.objects)) [ inl
         subst (λ (x : Option Object). IsOpen (and_then (some x w) (kept_in which))) (slice_get_past w.heap.objects o.0 ge)
         (subst (λ (r : Outcome Place). IsOpen r) (class_found which k w o e) h)
 
-pub kept_is : (which : Keeps) (k : ℕ) (w : World) (o : ObjId) (what : What) → Some o ≡ get_or w.heap.classes k None → o.0 < length w.heap.objects → what ≡ (object_at w.heap.objects o.0).what → kept_by which k w ≡ some (which what) w
+pub kept_is : (which : Keeps) (k : ℕ) (w : World) (o : ObjId) (what : What) → Some o ≡ get_or w.heap.classes k None → o.0 < length w.heap.objects → what ≡ (object_at w.heap.objects o.0).what → place_kept_by which k w ≡ some (which what) w
 kept_is which k w o what e lt is =
     let there = slice_get_some w.heap.objects o.0 lt in
     let same : what ≡ there.0.what = is ∙ ap (λ (ob : Object). ob.what) (object_there w.heap.objects o.0 there.0 there.1) in
-    class_found which k w o e ∙ some_is (object o w) there.0 (kept_in which) w there.1 ∙ ap (λ x. some (which x) w) (sym same)
+    class_found which k w o e ∙ some_is (object_named o w) there.0 (kept_in which) w there.1 ∙ ap (λ x. some (which x) w) (sym same)
 
 -- ---- it is a class object
 

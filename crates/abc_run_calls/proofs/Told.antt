@@ -13,7 +13,7 @@ use Rattle.abc_heap_values.specs.declared.values.Value.TheVariants.{Text, Obj}
 use Rattle.abc_heap_store.specs.Heap.{Heap}
 use Rattle.abc_heap_store.specs.declared.records.What.TheVariants as whats
 use Rattle.abc_objects.specs.Stands.{host_layout}
-use Rattle.abc_ops.specs.Conversions.{spelled}
+use Rattle.abc_ops.specs.Conversions.{spelling}
 use Rattle.abc_ops.specs.Left.{followed_by, text_value}
 use Rattle.abc_ops.specs.declared.end.OpEnd.{OpEnd}
 use Rattle.abc_link_names.specs.Linked.{layout_of}
@@ -21,14 +21,14 @@ use Rattle.abc_link_names.specs.declared.part.LayoutId.{LayoutId}
 use Rattle.abc_link_names.specs.declared.part.Part.TheVariants as parts
 use Rattle.abc_frames.specs.Frame.{Frame, arguments}
 use Rattle.abc_run_state.specs.Operands.{operand_at}
-use Rattle.abc_run_state.specs.Settling.{settles}
+use Rattle.abc_run_state.specs.Settling.{settles_how}
 use Rattle.abc_run_state.specs.declared.state.How.{How}
 use Rattle.abc_meaning.specs.Calling.{Came, got}
 use Rattle.abc_meaning.specs.Making.{host_arguments, message_of, most_arguments, new_plain, prototype_in, set_message}
 use Rattle.abc_meaning.specs.Objects.{new_object}
 use Rattle.abc_meaning.specs.Ops.{as_text, outcome, spells}
 use Rattle.abc_meaning.specs.Setting.{Setting}
-use Rattle.abc_meaning.specs.World.{Outcome, Run, Stop, Stopped, Went, World, and_then, done, see, throws, ◌>>=◌, ◌>>◌}
+use Rattle.abc_meaning.specs.World.{Outcome, Run, Stop, Stopped, Went, World, and_then, pure, see, throws, ◌>>=◌, ◌>>◌}
 use Rattle.abc_run_calls.proofs.Operands.{count_given, given_at}
 use Rattle.abc_run_calls.specs.Calls.{makes_of_class, makes_plain, plain_object, settled_by}
 
@@ -40,7 +40,7 @@ texted (Went w t) = Went w (Text t)
 texted (Stopped w why) = Stopped w why
 
 text_is : (p : Setting) (v : Value) (w : World) → as_text p v w ≡ texted (spells p v w)
-text_is p v w = go (spelled p.linked w.heap v).heap (spelled p.linked w.heap v).answer
+text_is p v w = go (spelling p.linked w.heap v).heap (spelling p.linked w.heap v).answer
   where
     go : (h : Heap) (r : Result Span OpEnd) → outcome (record w { heap = (followed_by h r text_value).heap }) (followed_by h r text_value).answer ≡ texted (outcome (record w { heap = h }) r)
     go h (Ok t) = refl
@@ -57,25 +57,25 @@ few p c f count w le most = counted p c (arguments count f) w true (ap (λ n. na
     within : (a b : ℕ) → b ≤ a → nat_le b a ≡ true
     within a b h = grind (arith, nat_tests)
 
-first_message : (p : Setting) (f : Frame) (count : ℕ) (w : World) → 0 < count → count ≤ length f.stack → message_of p (arguments count f) w ≡ and_then (texted (spells p (operand_at (count - 1) f) w)) (λ t. done (t ∷ []))
+first_message : (p : Setting) (f : Frame) (count : ℕ) (w : World) → 0 < count → count ≤ length f.stack → message_of p (arguments count f) w ≡ and_then (texted (spells p (operand_at (count - 1) f) w)) (λ t. pure (t ∷ []))
 first_message p f count w some le =
     let last : count - 1 - 0 ≡ count - 1 = omega arith in
     ap (λ (vs : List Value). message_of p vs w) (given_at f count 0 some le)
-    ∙ ap (λ n. and_then (as_text p (operand_at n f) w) (λ t. done (t ∷ []))) last
-    ∙ ap (λ o. and_then o (λ t. done (t ∷ []))) (text_is p (operand_at (count - 1) f) w)
+    ∙ ap (λ n. and_then (as_text p (operand_at n f) w) (λ t. pure (t ∷ []))) last
+    ∙ ap (λ o. and_then o (λ t. pure (t ∷ []))) (text_is p (operand_at (count - 1) f) w)
 
 pub message_made : (p : Setting) (c : HostClass) (f : Frame) (count : ℕ) (w after : World) (t : Span) → 0 < count → count ≤ length f.stack → count ≤ most_arguments c → spells p (operand_at (count - 1) f) w ≡ Went after t
     → host_arguments p c (arguments count f) w ≡ Went after (Text t ∷ [])
-message_made p c f count w after t some le most e = few p c f count w le most ∙ first_message p f count w some le ∙ ap (λ o. and_then (texted o) (λ x. done (x ∷ []))) e
+message_made p c f count w after t some le most e = few p c f count w le most ∙ first_message p f count w some le ∙ ap (λ o. and_then (texted o) (λ x. pure (x ∷ []))) e
 
 pub message_stops : (p : Setting) (c : HostClass) (f : Frame) (count : ℕ) (w after : World) (why : Stop) → 0 < count → count ≤ length f.stack → count ≤ most_arguments c → spells p (operand_at (count - 1) f) w ≡ Stopped after why
     → host_arguments p c (arguments count f) w ≡ Stopped after why
-message_stops p c f count w after why some le most e = few p c f count w le most ∙ first_message p f count w some le ∙ ap (λ o. and_then (texted o) (λ x. done (x ∷ []))) e
+message_stops p c f count w after why some le most e = few p c f count w le most ∙ first_message p f count w some le ∙ ap (λ o. and_then (texted o) (λ x. pure (x ∷ []))) e
 
 -- ---- the object, and its message
 
 abbrev telling : Setting → ObjId → List Value → Run ObjId
-telling p made message = set_message p made message >> done made
+telling p made message = set_message p made message >> pure made
 
 abbrev making : Setting → ObjId → HostClass → List Value → Run ObjId
 making p o c message = see (prototype_in o) >>= λ d. new_object p (host_layout p.linked c) d whats.Plain >>= λ made. telling p made message
@@ -83,12 +83,12 @@ making p o c message = see (prototype_in o) >>= λ d. new_object p (host_layout 
 pub plain_made : (p : Setting) (o made : ObjId) (c : HostClass) (args message : List Value) (w told there after : World) (u : Unit {0}) → host_arguments p c args w ≡ Went told message → new_object p (host_layout p.linked c) (prototype_in o told) whats.Plain told ≡ Went there made
     → set_message p made message there ≡ Went after u → plain_object p o c args w ≡ Went after made
 plain_made p o made c args message w told there after u a b e =
-    ap (λ r. and_then r (making p o c)) a ∙ ap (λ r. and_then r (λ m. telling p m message)) b ∙ ap (λ r. and_then r (λ x. done made)) e
+    ap (λ r. and_then r (making p o c)) a ∙ ap (λ r. and_then r (λ m. telling p m message)) b ∙ ap (λ r. and_then r (λ x. pure made)) e
 
 pub plain_untold : (p : Setting) (o made : ObjId) (c : HostClass) (args message : List Value) (w told there after : World) (why : Stop) → host_arguments p c args w ≡ Went told message → new_object p (host_layout p.linked c) (prototype_in o told) whats.Plain told ≡ Went there made
     → set_message p made message there ≡ Stopped after why → plain_object p o c args w ≡ Stopped after why
 plain_untold p o made c args message w told there after why a b e =
-    ap (λ r. and_then r (making p o c)) a ∙ ap (λ r. and_then r (λ m. telling p m message)) b ∙ ap (λ r. and_then r (λ x. done made)) e
+    ap (λ r. and_then r (making p o c)) a ∙ ap (λ r. and_then r (λ m. telling p m message)) b ∙ ap (λ r. and_then r (λ x. pure made)) e
 
 pub plain_unmade : (p : Setting) (o : ObjId) (c : HostClass) (args message : List Value) (w told after : World) (why : Stop) → host_arguments p c args w ≡ Went told message → new_object p (host_layout p.linked c) (prototype_in o told) whats.Plain told ≡ Stopped after why
     → plain_object p o c args w ≡ Stopped after why
@@ -116,7 +116,7 @@ came made = got (Obj made)
 plain_new : (p : Setting) (o : ObjId) (c : HostClass) (args : List Value) (w : World) → new_plain p o c args w ≡ and_then (plain_object p o c args w) came
 plain_new p o c args w = first (host_arguments p c args w)
   where
-    third : (made : ObjId) (r : Outcome (Unit {0})) → and_then r (λ u. came made) ≡ and_then (and_then r (λ u. done made)) came
+    third : (made : ObjId) (r : Outcome (Unit {0})) → and_then r (λ u. came made) ≡ and_then (and_then r (λ u. pure made)) came
     third made (Went n u) = refl
     third made (Stopped n why) = refl
 
@@ -129,7 +129,7 @@ plain_new p o c args w = first (host_arguments p c args w)
     first (Stopped n why) = refl
 
 settled : (p : Setting) (o : ObjId) (c : HostClass) (count : ℕ) (how : How) (f : Frame) (w : World) → settled_by how f (new_plain p o c (arguments count f)) w ≡ makes_plain p o c count how f w
-settled p o c count how f w = ap (λ r. and_then r (settles how f)) (plain_new p o c (arguments count f) w)
+settled p o c count how f w = ap (λ r. and_then r (settles_how how f)) (plain_new p o c (arguments count f) w)
 
 pub made_plain : (p : Setting) (o : ObjId) (c : HostClass) (count : ℕ) (how : How) (f : Frame) (w : World) → IsPlain c → makes_of_class p o c count how f w ≡ makes_plain p o c count how f w
 made_plain p o hosts.Object count how f w i = settled p o hosts.Object count how f w

@@ -14,19 +14,19 @@ use Rattle.abc_file_types.specs.declared.methods.Method.{Method}
 use Rattle.abc_file_types.specs.declared.methods.OptionValue.{OptionValue}
 use Rattle.abc_run_state.specs.declared.state.State.{State}
 use Rattle.abc_run_state.specs.declared.state.Stop.{Stop}
-use Rattle.abc_meaning.specs.Entering.{arguments, coerces_to, gives_option}
+use Rattle.abc_meaning.specs.Entering.{arguments_for, coerces_to, gives_option}
 use Rattle.abc_meaning.specs.Setting.{Setting, method_of, value_of_option}
-use Rattle.abc_meaning.specs.World.{Run, done, some, stuck, ◌>>=◌}
+use Rattle.abc_meaning.specs.World.{Run, pure, some, sticks, ◌>>=◌}
 
 -- what is given first, or the value of its option
-abbrev pub first_of : Setting → List (Option OptionValue) → List Value → Run Value
-first_of p os (v ∷ vs) = done v
-first_of p [] [] = stuck
-first_of p (o ∷ os) [] = gives_option p o
+abbrev pub first_or_option : Setting → List (Option OptionValue) → List Value → Run Value
+first_or_option p os (v ∷ vs) = pure v
+first_or_option p [] [] = sticks
+first_or_option p (o ∷ os) [] = gives_option p o
 
 -- it is coerced to the type of the parameter
 abbrev pub coerces_first : Setting → ℕ → List (Option OptionValue) → List Value → Run Value
-coerces_first p ty os vs = first_of p os vs >>= coerces_to p ty
+coerces_first p ty os vs = first_or_option p os vs >>= coerces_to p ty
 
 -- the values that code made beside what it answers
 abbrev pub with_values : {X : Type 0} → Result Unit Stop → X → Result X Stop
@@ -34,22 +34,22 @@ with_values (Ok u) x = Ok x
 with_values (Err e) x = Err e
 
 -- the receiver stands before the arguments
-abbrev pub receiver : List Value → Value
-receiver [] = Undefined
-receiver (v ∷ vs) = v
+abbrev pub first_receiver : List Value → Value
+first_receiver [] = Undefined
+first_receiver (v ∷ vs) = v
 
 -- the array that a method may take
 abbrev pub list_of : Option Value → List Value
 list_of None = []
 list_of (Some v) = v ∷ []
 
-abbrev pub listed : Result (Option Value) Stop → Result (List Value) Stop
-listed (Ok array) = Ok (list_of array)
-listed (Err e) = Err e
+abbrev pub list_result : Result (Option Value) Stop → Result (List Value) Stop
+list_result (Ok array) = Ok (list_of array)
+list_result (Err e) = Err e
 
 -- the arguments of a method, by its number
 abbrev pub makes_arguments : Setting → (method : ℕ) → List Value → Run (List Value)
-makes_arguments p n given = some (method_of p n) >>= λ m. arguments p m given
+makes_arguments p n given = some (method_of p n) >>= λ m. arguments_for p m given
 
 -- ---- what code relies on
 
@@ -62,7 +62,7 @@ pub record HasOptions (l : LinkedFile) (m : Method) : Type 0 where
   pub each : (k : ℕ) (o : OptionValue) → slice_get m.options k ≡ Some o → IsOptionOf l o
 
 -- there is room for the first locals of each method: the receiver, the parameters and an array
-pub record IsKnown (l : LinkedFile) (limit : ℕ) : Type 0 where
+pub record HasArgumentRoom (l : LinkedFile) (limit : ℕ) : Type 0 where
   pub room : (n : ℕ) (m : Method) → slice_get l.file.methods n ≡ Some m → length m.params + 2 ≤ limit
   pub options : (n : ℕ) (m : Method) → slice_get l.file.methods n ≡ Some m → HasOptions l m
 

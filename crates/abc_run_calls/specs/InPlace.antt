@@ -6,15 +6,15 @@ use Rattle.abc_link_names.specs.Linked.{LinkedFile}
 use Rattle.abc_frames.specs.Frame.{Frame, arguments}
 use Rattle.abc_file_types.specs.declared.methods.Method.{Method}
 use Rattle.abc_verify_typing.specs.Routines.{takes_array}
-use Rattle.abc_meaning.specs.Entering.{coerced}
+use Rattle.abc_meaning.specs.Entering.{coerced_arguments}
 use Rattle.abc_run_state.specs.Operands.{operand_at}
-use Rattle.abc_run_state.specs.Outer.{Outer, setting}
+use Rattle.abc_run_state.specs.Outer.{Outer, setting_in}
 use Rattle.abc_meaning.specs.Setting.{options_of}
 use Rattle.abc_meaning.specs.World.{Went, World}
 
 -- all arguments are what they are coerced to
 abbrev pub AreOfTypes : LinkedFile → Method → (count : ℕ) → Frame → Type 0
-AreOfTypes l m count f = (out : Outer) (w : World) → coerced (setting l out) m.params (options_of m) (arguments count f) w ≡ Went w (arguments count f)
+AreOfTypes l m count f = (out : Outer) (w : World) → coerced_arguments (setting_in l out) m.params (options_of m) (arguments count f) w ≡ Went w (arguments count f)
 
 -- all operands that leave are the receiver and the arguments above it, and no array comes behind them
 pub record StandsInPlace (l : LinkedFile) (m : Method) (this : Value) (count taken : ℕ) (f : Frame) : Type 0 where

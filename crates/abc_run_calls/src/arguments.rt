@@ -2,13 +2,13 @@ ghost use Rattle.std.specs.Prelude.{◌≡◌, ◌+◌, ◌<◌, ◌≤◌, ◌+
 ghost use Rattle.abc_heap_values.specs.Filling.{HasRoom};
 ghost use Rattle.abc_objects.specs.Values.{Exists};
 ghost use Rattle.abc_frames.specs.Frame.{arguments as operands, newest};
-ghost use Rattle.abc_run_state.specs.Outer.{Outer, setting, world};
+ghost use Rattle.abc_run_state.specs.Outer.{Outer, setting_in, world};
 ghost use Rattle.abc_run_state.specs.Standing.{IsSet, Stays};
-ghost use Rattle.abc_run_state.specs.Stops.{IsOpen, answer};
-ghost use Rattle.abc_meaning.specs.Entering.{array_of as array_so, coerced, extra};
-ghost use Rattle.abc_meaning.specs.Setting.{may_take as may_take_so, options_of};
+ghost use Rattle.abc_run_state.specs.Stops.{IsOpen, part_outcome};
+ghost use Rattle.abc_meaning.specs.Entering.{array_of as array_so, coerced_arguments, extra};
+ghost use Rattle.abc_meaning.specs.Setting.{may_take_arguments as may_take_so, options_of};
 ghost use Rattle.abc_meaning.specs.World.{World};
-ghost use Rattle.abc_run_calls.specs.Arguments.{HasOptions, Makes, coerces_first, first_of, list_of, listed, receiver, with_values};
+ghost use Rattle.abc_run_calls.specs.Arguments.{HasOptions, Makes, coerces_first, first_or_option, list_of, list_result, first_receiver, with_values};
 
 use crate::methods::{ARGUMENTS, REST};
 use crate::options::option_given;
@@ -33,7 +33,9 @@ fn argument(
     requires takes { may_take_so method.now count ≡ true }
     requires parameter { k < length method.now.params }
     requires options { HasOptions linked.now method.now }
-    ensures part { (out : Outer) (w : World) → first_of (setting linked.now out) (drop k (options_of method.now)) (drop k (operands count (newest s.now.frames))) w ≡ answer result w }
+    ensures part { (out : Outer) (w : World)
+        → first_or_option (setting_in linked.now out) (drop k (options_of method.now))
+        (drop k (operands count (newest s.now.frames))) w ≡ part_outcome result w }
     ensures there { IfOk result (Exists linked.now s.now.arena) }
 {
     if k < count as usize {
@@ -62,8 +64,11 @@ fn coerce_argument(
     requires takes { may_take_so method.now count ≡ true }
     requires parameter { k < length method.now.params }
     requires options { HasOptions linked.now method.now }
-    requires free { IsOpen (coerces_first (setting linked.now out) ty (drop k (options_of method.now)) (drop k (operands count (newest s.old.frames))) (world s.old out)) }
-    ensures part { coerces_first (setting linked.now out) ty (drop k (options_of method.now)) (drop k (operands count (newest s.old.frames))) (world s.old out) ≡ answer result (world s.new out) }
+    requires free { IsOpen (coerces_first (setting_in linked.now out) ty (drop k (options_of method.now))
+        (drop k (operands count (newest s.old.frames))) (world s.old out)) }
+    ensures part { coerces_first (setting_in linked.now out) ty (drop k (options_of method.now))
+        (drop k (operands count (newest s.old.frames))) (world s.old out)
+        ≡ part_outcome result (world s.new out) }
     ensures stays { Stays linked.now s.old s.new }
 {
     let v = argument(linked, s, method, count, k)?;
@@ -88,10 +93,14 @@ pub(crate) fn coerce_arguments(
     requires options { HasOptions linked.now method.now }
     requires room { length method.now.params + 2 ≤ s.old.given.limit }
     requires alone { length s.old.given.items ≡ 1 }
-    requires free { IsOpen (coerced (setting linked.now out) method.now.params (options_of method.now) (operands count (newest s.old.frames)) (world s.old out)) }
-    ensures part { coerced (setting linked.now out) method.now.params (options_of method.now) (operands count (newest s.old.frames)) (world s.old out) ≡ answer (with_values result (drop 1 s.new.given.items)) (world s.new out) }
+    requires free { IsOpen (coerced_arguments (setting_in linked.now out) method.now.params
+        (options_of method.now) (operands count (newest s.old.frames)) (world s.old out)) }
+    ensures part { coerced_arguments (setting_in linked.now out) method.now.params (options_of method.now)
+        (operands count (newest s.old.frames)) (world s.old out)
+        ≡ part_outcome (with_values result (drop 1 s.new.given.items)) (world s.new out) }
     ensures makes { Makes linked.now s.old s.new }
-    ensures given { OnOk result ((receiver s.new.given.items ≡ receiver s.old.given.items) × (length s.new.given.items ≡ length method.now.params + 1)) }
+    ensures given { OnOk result ((first_receiver s.new.given.items ≡ first_receiver s.old.given.items)
+        × (length s.new.given.items ≡ length method.now.params + 1)) }
 {
     let types = method.params.as_slice();
     for (k, ty) in types.iter().enumerate() {
@@ -105,7 +114,9 @@ pub(crate) fn coerce_arguments(
 fn array_with(linked: &Linked, s: &mut State, count: u32) -> Result<Option<Value>, Stop>
     requires set { IsSet linked.now s.old }
     requires there { count ≤ length (newest s.old.frames).stack }
-    ensures part { (out : Outer) → array_so (setting linked.now out) (operands count (newest s.old.frames)) (world s.old out) ≡ answer (listed result) (world s.new out) }
+    ensures part { (out : Outer)
+        → array_so (setting_in linked.now out) (operands count (newest s.old.frames)) (world s.old out)
+        ≡ part_outcome (list_result result) (world s.new out) }
     ensures stays { Stays linked.now s.old s.new }
 {
     let made = make_array(linked, s, count)?;
@@ -122,7 +133,9 @@ pub(crate) fn array_of(
 ) -> Result<Option<Value>, Stop>
     requires set { IsSet linked.now s.old }
     requires there { count ≤ length (newest s.old.frames).stack }
-    ensures part { (out : Outer) → extra (setting linked.now out) method.now (operands count (newest s.old.frames)) (world s.old out) ≡ answer (listed result) (world s.new out) }
+    ensures part { (out : Outer)
+        → extra (setting_in linked.now out) method.now (operands count (newest s.old.frames))
+        (world s.old out) ≡ part_outcome (list_result result) (world s.new out) }
     ensures stays { Stays linked.now s.old s.new }
 {
     if has_flag(method.flags, REST) {

@@ -1,10 +1,10 @@
 ghost use Rattle.std.specs.Prelude.{◌≡◌, ◌<◌, ◌≤◌, length};
-ghost use Rattle.abc_frames.specs.Ready.{IsReady};
+ghost use Rattle.abc_frames.specs.Ready.{HasFrameRoom};
 ghost use Rattle.abc_objects.specs.Stands.{NamesParts, StandsOver};
 ghost use Rattle.abc_objects.specs.Values.{Exists};
-ghost use Rattle.abc_run_calls.specs.Entering.{placed};
+ghost use Rattle.abc_run_calls.specs.Entering.{place_in_meaning};
 ghost use Rattle.abc_run_state.specs.Outer.{Outer, world};
-ghost use Rattle.abc_run_state.specs.Settling.{given_by, taken_by, wait_of};
+ghost use Rattle.abc_run_state.specs.Settling.{given_by_how, taken_by, wait_of};
 ghost use Rattle.abc_meaning.specs.Calling.{this_of as this_so};
 ghost use Rattle.abc_run_calls.specs.Calls.{calls_object, calls_value, enters_settled};
 ghost use Rattle.abc_run_state.specs.Doing.{Does};
@@ -63,10 +63,12 @@ fn call_function(
     how: How,
 ) -> Result<(), Stop>
     ghost out: { Outer }
-    requires can { CanDo linked.now out (λ p. enters_settled p method this (placed at) count how) s.old }
-    requires ready { IsReady (taken_by how) (given_by how) s.old.frames }
+    requires can { CanDo linked.now out (λ p. enters_settled p method this (place_in_meaning at) count how)
+        s.old }
+    requires ready { HasFrameRoom (taken_by how) (given_by_how how) s.old.frames }
     requires count { count ≤ taken_by how }
-    ensures { Does linked.now out (λ p. enters_settled p method this (placed at) count how) s.old result s.new }
+    ensures { Does linked.now out (λ p. enters_settled p method this (place_in_meaning at) count how) s.old
+        result s.new }
 {
     let (taken, wait) = waiting(how);
     enter(linked, s, method, this, at, count, taken, wait)
@@ -83,7 +85,7 @@ fn call_what(
 ) -> Result<Left, Stop>
     ghost out: { Outer }
     requires can { CanDo linked.now out (λ p. calls_object p what receiver count how) s.old }
-    requires ready { IsReady (taken_by how) (given_by how) s.old.frames }
+    requires ready { HasFrameRoom (taken_by how) (given_by_how how) s.old.frames }
     requires count { count ≤ taken_by how }
     requires names { NamesParts linked.now s.old.arena what }
     ensures { DoesOrLeaves linked.now out (λ p. calls_object p what receiver count how) s.old result s.new }
@@ -132,7 +134,7 @@ pub fn call(
 ) -> Result<Left, Stop>
     ghost out: { Outer }
     requires can { CanDo linked.now out (λ p. calls_value p callee receiver count how) s.old }
-    requires ready { IsReady (taken_by how) (given_by how) s.old.frames }
+    requires ready { HasFrameRoom (taken_by how) (given_by_how how) s.old.frames }
     requires count { count ≤ taken_by how }
     requires callee { Exists linked.now s.old.arena callee }
     ensures { DoesOrLeaves linked.now out (λ p. calls_value p callee receiver count how) s.old result s.new }

@@ -1,11 +1,11 @@
 ghost use Rattle.std.specs.Prelude.{◌≡◌, ◌≤◌, ℕ, pos, negsuc, length, MatchOption};
 ghost use Rattle.abc_base.specs.Ranges.{IsNumber};
-ghost use Rattle.abc_frames.specs.Ready.{IsReady};
+ghost use Rattle.abc_frames.specs.Ready.{HasFrameRoom};
 ghost use Rattle.abc_frames.specs.Frame.{arguments, newest};
-ghost use Rattle.abc_run_state.specs.Outer.{Outer, setting, world};
-ghost use Rattle.abc_run_state.specs.Settling.{given_by, taken_by};
+ghost use Rattle.abc_run_state.specs.Outer.{Outer, setting_in, world};
+ghost use Rattle.abc_run_state.specs.Settling.{given_by_how, taken_by};
 ghost use Rattle.abc_run_state.specs.Standing.{IsSet, Stays};
-ghost use Rattle.abc_run_state.specs.Stops.{answer};
+ghost use Rattle.abc_run_state.specs.Stops.{part_outcome};
 ghost use Rattle.abc_run_state.specs.Turns.{Runs};
 ghost use Rattle.abc_meaning.specs.Making.{new_elements};
 ghost use Rattle.abc_run_calls.specs.Calls.{makes_elements};
@@ -27,7 +27,9 @@ fn length_of(n: i64) -> Option<u32>
 fn array_for(linked: &Linked, s: &mut State, count: u32) -> Result<ObjId, Stop>
     requires set { IsSet linked.now s.old }
     requires there { count ≤ length (newest s.old.frames).stack }
-    ensures part { (out : Outer) → new_elements (setting linked.now out) (arguments count (newest s.old.frames)) (world s.old out) ≡ answer result (world s.new out) }
+    ensures part { (out : Outer)
+        → new_elements (setting_in linked.now out) (arguments count (newest s.old.frames)) (world s.old out)
+        ≡ part_outcome result (world s.new out) }
     ensures stays { Stays linked.now s.old s.new }
 {
     if count != 1 {
@@ -50,9 +52,11 @@ pub(crate) fn make_elements(
     how: How,
 ) -> Result<(), Stop>
     requires set { IsSet linked.now s.old }
-    requires ready { IsReady (taken_by how) (given_by how) s.old.frames }
+    requires ready { HasFrameRoom (taken_by how) (given_by_how how) s.old.frames }
     requires count { count ≤ taken_by how }
-    ensures runs { (out : Outer) → Runs linked.now out (makes_elements (setting linked.now out) count how (newest s.old.frames)) s.old result s.new }
+    ensures runs { (out : Outer)
+        → Runs linked.now out (makes_elements (setting_in linked.now out) count how (newest s.old.frames))
+        s.old result s.new }
     ensures limit { s.new.given.limit ≡ s.old.given.limit }
 {
     let made = array_for(linked, s, count)?;

@@ -1,12 +1,12 @@
 ghost use Rattle.std.specs.Prelude.{◌≡◌, ◌<◌, ◌≤◌, ◌∷◌, length, drop, OnOk};
 ghost use Rattle.abc_heap_values.specs.declared.values.Value.TheVariants.{Obj};
 ghost use Rattle.abc_frames.specs.Frame.{arguments as operands, newest};
-ghost use Rattle.abc_run_state.specs.Outer.{Outer, setting, world};
+ghost use Rattle.abc_run_state.specs.Outer.{Outer, setting_in, world};
 ghost use Rattle.abc_run_state.specs.Standing.{IsSet};
-ghost use Rattle.abc_run_state.specs.Stops.{IsOpen, answer};
+ghost use Rattle.abc_run_state.specs.Stops.{IsOpen, part_outcome};
 ghost use Rattle.abc_run_state.specs.Turns.{IsDoneIf};
-ghost use Rattle.abc_run_calls.specs.Arguments.{IsKnown, Makes, makes_arguments, receiver, with_values};
-ghost use Rattle.abc_run_calls.specs.Entering.{enters_above, enters_owned_above, placed, puts_on, starts_above};
+ghost use Rattle.abc_run_calls.specs.Arguments.{HasArgumentRoom, Makes, makes_arguments, first_receiver, with_values};
+ghost use Rattle.abc_run_calls.specs.Entering.{enters_above, enters_owned_above, place_in_meaning, puts_on, starts_above};
 ghost use Rattle.abc_run_state.specs.Doing.{Does};
 ghost use Rattle.abc_run_calls.specs.Doing.{CanDo};
 
@@ -31,12 +31,16 @@ pub fn prepare(
 ) -> Result<(), Stop>
     ghost out: { Outer }
     requires set { IsSet linked.now s.old }
-    requires known { IsKnown linked.now s.old.given.limit }
+    requires known { HasArgumentRoom linked.now s.old.given.limit }
     requires there { count ≤ length (newest s.old.frames).stack }
-    requires free { IsOpen (makes_arguments (setting linked.now out) method (operands count (newest s.old.frames)) (world s.old out)) }
-    ensures part { makes_arguments (setting linked.now out) method (operands count (newest s.old.frames)) (world s.old out) ≡ answer (with_values result (drop 1 s.new.given.items)) (world s.new out) }
+    requires free { IsOpen (makes_arguments (setting_in linked.now out) method
+        (operands count (newest s.old.frames)) (world s.old out)) }
+    ensures part { makes_arguments (setting_in linked.now out) method (operands count (newest s.old.frames))
+        (world s.old out)
+        ≡ part_outcome (with_values result (drop 1 s.new.given.items)) (world s.new out) }
     ensures makes { Makes linked.now s.old s.new }
-    ensures given { OnOk result ((s.new.given.items ≡ this ∷ drop 1 s.new.given.items) × (length s.new.given.items < s.new.given.limit)) }
+    ensures given { OnOk result ((s.new.given.items ≡ this ∷ drop 1 s.new.given.items)
+        × (length s.new.given.items < s.new.given.limit)) }
 {
     let signature = method_at(linked, method);
     if !may_take(signature, count) {
@@ -66,8 +70,12 @@ pub fn put_on(
     requires taken { taken ≤ length (newest s.old.frames).stack }
     requires given { 0 < length s.old.given.items }
     requires room { length s.old.given.items < s.old.given.limit }
-    requires free { IsOpen (puts_on (setting linked.now out) method (placed at) (receiver s.old.given.items) (drop 1 s.old.given.items) count taken wait (newest s.old.frames) (world s.old out)) }
-    ensures { Does linked.now out (λ p. puts_on p method (placed at) (receiver s.old.given.items) (drop 1 s.old.given.items) count taken wait) s.old result s.new }
+    requires free { IsOpen (puts_on (setting_in linked.now out) method (place_in_meaning at)
+        (first_receiver s.old.given.items) (drop 1 s.old.given.items) count taken wait
+        (newest s.old.frames) (world s.old out)) }
+    ensures { Does linked.now out (λ p. puts_on p method (place_in_meaning at)
+        (first_receiver s.old.given.items) (drop 1 s.old.given.items) count taken wait) s.old result
+        s.new }
 {
     let array = array_of(linked, s, method_at(linked, method), count)?;
     give(&mut s.given, array);
@@ -89,11 +97,13 @@ fn enter_prepared(
     wait: Wait,
 ) -> Result<(), Stop>
     ghost out: { Outer }
-    requires can { CanDo linked.now out (λ p. enters_above p method this (placed at) count taken wait) s.old }
+    requires can { CanDo linked.now out
+        (λ p. enters_above p method this (place_in_meaning at) count taken wait) s.old }
     requires live { 0 < length s.old.frames.living }
     requires there { count ≤ length (newest s.old.frames).stack }
     requires taken { taken ≤ length (newest s.old.frames).stack }
-    ensures { Does linked.now out (λ p. enters_above p method this (placed at) count taken wait) s.old result s.new }
+    ensures { Does linked.now out (λ p. enters_above p method this (place_in_meaning at) count taken wait)
+        s.old result s.new }
 {
     prepare(linked, s, method, this, count)?;
     put_on(linked, s, method, at, count, taken, wait)
@@ -115,8 +125,10 @@ fn enters_at_once(
     ghost out: { Outer }
     requires live { 0 < length s.old.frames.living }
     requires taken { taken ≤ length (newest s.old.frames).stack }
-    requires free { IsOpen (enters_above (setting linked.now out) method this (placed at) count taken wait (newest s.old.frames) (world s.old out)) }
-    ensures { IsDoneIf result linked.now out (enters_above (setting linked.now out) method this (placed at) count taken wait (newest s.old.frames)) s.old s.new }
+    requires free { IsOpen (enters_above (setting_in linked.now out) method this (place_in_meaning at) count
+        taken wait (newest s.old.frames) (world s.old out)) }
+    ensures { IsDoneIf result linked.now out (enters_above (setting_in linked.now out) method this
+        (place_in_meaning at) count taken wait (newest s.old.frames)) s.old s.new }
 {
     let signature = method_at(linked, method);
     if !is_in_place(linked, &s.frames, signature, this, count, taken) {
@@ -139,11 +151,13 @@ pub fn enter(
     wait: Wait,
 ) -> Result<(), Stop>
     ghost out: { Outer }
-    requires can { CanDo linked.now out (λ p. enters_above p method this (placed at) count taken wait) s.old }
+    requires can { CanDo linked.now out
+        (λ p. enters_above p method this (place_in_meaning at) count taken wait) s.old }
     requires live { 0 < length s.old.frames.living }
     requires there { count ≤ length (newest s.old.frames).stack }
     requires taken { taken ≤ length (newest s.old.frames).stack }
-    ensures { Does linked.now out (λ p. enters_above p method this (placed at) count taken wait) s.old result s.new }
+    ensures { Does linked.now out (λ p. enters_above p method this (place_in_meaning at) count taken wait)
+        s.old result s.new }
 {
     if enters_at_once(linked, s, method, this, at, count, taken, wait) {
         return Ok(());
@@ -167,7 +181,8 @@ pub fn enter_owned(
     requires live { 0 < length s.old.frames.living }
     requires there { count ≤ length (newest s.old.frames).stack }
     requires taken { taken ≤ length (newest s.old.frames).stack }
-    ensures { Does linked.now out (λ p. enters_owned_above p method this count taken wait) s.old result s.new }
+    ensures { Does linked.now out (λ p. enters_owned_above p method this count taken wait) s.old result
+        s.new }
 {
     let at = place_of_owner(linked, s, linked.owner(method));
     enter(linked, s, method, this, at, count, taken, wait)
@@ -189,8 +204,11 @@ pub fn enters_on_object(
     requires set { IsSet linked.now s.old }
     requires live { 0 < length s.old.frames.living }
     requires taken { taken ≤ length (newest s.old.frames).stack }
-    requires free { IsOpen (enters_owned_above (setting linked.now out) method (Obj o) count taken wait (newest s.old.frames) (world s.old out)) }
-    ensures { IsDoneIf result linked.now out (enters_owned_above (setting linked.now out) method (Obj o) count taken wait (newest s.old.frames)) s.old s.new }
+    requires free { IsOpen (enters_owned_above (setting_in linked.now out) method (Obj o) count taken wait
+        (newest s.old.frames) (world s.old out)) }
+    ensures { IsDoneIf result linked.now out
+        (enters_owned_above (setting_in linked.now out) method (Obj o) count taken wait (newest s.old.frames))
+        s.old s.new }
 {
     let at = place_of_owner(linked, s, linked.owner(method));
     enters_at_once(linked, s, method, Value::Obj(o), at, count, taken, wait)

@@ -2,10 +2,10 @@ ghost use Rattle.std.specs.Prelude.{◌≡◌, ◌+◌, ◌-◌, ◌<◌, ◌≤
 ghost use Rattle.abc_heap_values.specs.declared.values.Value.TheVariants.{Obj};
 ghost use Rattle.abc_frames.specs.Frame.{newest};
 ghost use Rattle.abc_run_state.specs.Operands.{operand_at};
-ghost use Rattle.abc_run_state.specs.Outer.{Outer, setting, world};
+ghost use Rattle.abc_run_state.specs.Outer.{Outer, setting_in, world};
 ghost use Rattle.abc_run_state.specs.Stops.{IsOpen};
 ghost use Rattle.abc_run_state.specs.Turns.{IsDoneIf};
-ghost use Rattle.abc_run_calls.specs.Entering.{enters_above, placed};
+ghost use Rattle.abc_run_calls.specs.Entering.{enters_above, place_in_meaning};
 ghost use Rattle.abc_run_calls.specs.InPlace.{AreOfTypes, StandsInPlace};
 ghost use Rattle.abc_run_state.specs.OfType.{IsOfNamed};
 
@@ -135,8 +135,10 @@ pub(crate) fn enters_in_place(
     requires taken { taken ≤ length (newest s.old.frames).stack }
     requires signature { slice_get linked.now.file.methods method ≡ Some signature.now }
     requires in_place { StandsInPlace linked.now signature.now this count taken (newest s.old.frames) }
-    requires free { IsOpen (enters_above (setting linked.now out) method this (placed at) count taken wait (newest s.old.frames) (world s.old out)) }
-    ensures { IsDoneIf result linked.now out (enters_above (setting linked.now out) method this (placed at) count taken wait (newest s.old.frames)) s.old s.new }
+    requires free { IsOpen (enters_above (setting_in linked.now out) method this (place_in_meaning at) count
+        taken wait (newest s.old.frames) (world s.old out)) }
+    ensures { IsDoneIf result linked.now out (enters_above (setting_in linked.now out) method this
+        (place_in_meaning at) count taken wait (newest s.old.frames)) s.old s.new }
 {
     let _ = signature;
     let _ = this;

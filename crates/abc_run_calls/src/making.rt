@@ -1,14 +1,14 @@
 ghost use Rattle.std.specs.Prelude.{◌≡◌, ◌≢◌, ◌<◌, ◌≤◌, length};
 ghost use Rattle.abc_base.specs.declared.names.HostClass.TheVariants.{Array};
-ghost use Rattle.abc_frames.specs.Ready.{IsReady};
+ghost use Rattle.abc_frames.specs.Ready.{HasFrameRoom};
 ghost use Rattle.abc_objects.specs.Stands.{NamesParts};
 ghost use Rattle.abc_objects.specs.Values.{Exists, IsObject};
 ghost use Rattle.abc_frames.specs.Frame.{arguments, newest};
-ghost use Rattle.abc_run_state.specs.Outer.{Outer, setting, world};
-ghost use Rattle.abc_run_state.specs.Settling.{given_by, taken_by, wait_with};
+ghost use Rattle.abc_run_state.specs.Outer.{Outer, setting_in, world};
+ghost use Rattle.abc_run_state.specs.Settling.{given_by_how, taken_by, wait_with};
 ghost use Rattle.abc_run_state.specs.Standing.{IsSet, Stays};
-ghost use Rattle.abc_run_state.specs.Stops.{answer};
-ghost use Rattle.abc_run_calls.specs.Calls.{makes_instance, makes_of, makes_of_class, makes_plain, makes_value, plain_object};
+ghost use Rattle.abc_run_state.specs.Stops.{part_outcome};
+ghost use Rattle.abc_run_calls.specs.Calls.{makes_instance, makes_of_what, makes_of_class, makes_plain, makes_value, plain_object};
 ghost use Rattle.abc_run_state.specs.Doing.{Does};
 ghost use Rattle.abc_run_calls.specs.Doing.{CanDo};
 
@@ -37,7 +37,9 @@ fn plain_of(
     requires there { count ≤ length (newest s.old.frames).stack }
     requires inside { IsObject s.old.arena class_object }
     requires class { class ≢ Array }
-    ensures part { plain_object (setting linked.now out) class_object class (arguments count (newest s.old.frames)) (world s.old out) ≡ answer result (world s.new out) }
+    ensures part { plain_object (setting_in linked.now out) class_object class
+        (arguments count (newest s.old.frames)) (world s.old out)
+        ≡ part_outcome result (world s.new out) }
     ensures stays { Stays linked.now s.old s.new }
 {
     let message = message_of(linked, s, class, count)?;
@@ -59,7 +61,7 @@ fn make_plain(
 ) -> Result<(), Stop>
     ghost out: { Outer }
     requires set { IsSet linked.now s.old }
-    requires ready { IsReady (taken_by how) (given_by how) s.old.frames }
+    requires ready { HasFrameRoom (taken_by how) (given_by_how how) s.old.frames }
     requires count { count ≤ taken_by how }
     requires inside { IsObject s.old.arena class_object }
     requires class { class ≢ Array }
@@ -81,7 +83,7 @@ fn make_of_class(
 ) -> Result<(), Stop>
     ghost out: { Outer }
     requires set { IsSet linked.now s.old }
-    requires ready { IsReady (taken_by how) (given_by how) s.old.frames }
+    requires ready { HasFrameRoom (taken_by how) (given_by_how how) s.old.frames }
     requires count { count ≤ taken_by how }
     requires inside { IsObject s.old.arena class_object }
     ensures { Does linked.now out (λ p. makes_of_class p class_object class count how) s.old result s.new }
@@ -127,12 +129,14 @@ fn make_instance(
     how: How,
 ) -> Result<(), Stop>
     ghost out: { Outer }
-    requires can { CanDo linked.now out (λ p. makes_instance p class_object class home instances count how) s.old }
-    requires ready { IsReady (taken_by how) (given_by how) s.old.frames }
+    requires can { CanDo linked.now out (λ p. makes_instance p class_object class home instances count how)
+        s.old }
+    requires ready { HasFrameRoom (taken_by how) (given_by_how how) s.old.frames }
     requires count { count ≤ taken_by how }
     requires inside { IsObject s.old.arena class_object }
     requires class { class < length linked.now.file.instances }
-    ensures { Does linked.now out (λ p. makes_instance p class_object class home instances count how) s.old result s.new }
+    ensures { Does linked.now out (λ p. makes_instance p class_object class home instances count how) s.old
+        result s.new }
 {
     let maker = linked.abc().instances.get(class as usize).iinit;
     prepare(linked, s, maker, Value::Undefined, count)?;
@@ -159,12 +163,12 @@ fn make_of(
     how: How,
 ) -> Result<(), Stop>
     ghost out: { Outer }
-    requires can { CanDo linked.now out (λ p. makes_of p o what count how) s.old }
-    requires ready { IsReady (taken_by how) (given_by how) s.old.frames }
+    requires can { CanDo linked.now out (λ p. makes_of_what p o what count how) s.old }
+    requires ready { HasFrameRoom (taken_by how) (given_by_how how) s.old.frames }
     requires count { count ≤ taken_by how }
     requires inside { IsObject s.old.arena o }
     requires names { NamesParts linked.now s.old.arena what }
-    ensures { Does linked.now out (λ p. makes_of p o what count how) s.old result s.new }
+    ensures { Does linked.now out (λ p. makes_of_what p o what count how) s.old result s.new }
 {
     match what {
         What::ClassObject {
@@ -191,7 +195,7 @@ fn make_of(
 pub fn make(linked: &Linked, s: &mut State, of: Value, count: u32, how: How) -> Result<(), Stop>
     ghost out: { Outer }
     requires can { CanDo linked.now out (λ p. makes_value p of count how) s.old }
-    requires ready { IsReady (taken_by how) (given_by how) s.old.frames }
+    requires ready { HasFrameRoom (taken_by how) (given_by_how how) s.old.frames }
     requires count { count ≤ taken_by how }
     requires value { Exists linked.now s.old.arena of }
     ensures { Does linked.now out (λ p. makes_value p of count how) s.old result s.new }

@@ -2,11 +2,11 @@ ghost use Rattle.std.specs.Prelude.{◌≡◌, ◌≤◌, length, IfOk};
 ghost use Rattle.abc_objects.specs.Stands.{StandsOver};
 ghost use Rattle.abc_objects.specs.Values.{IsObject};
 ghost use Rattle.abc_frames.specs.Frame.{arguments, newest};
-ghost use Rattle.abc_run_state.specs.Outer.{Outer, setting, world};
+ghost use Rattle.abc_run_state.specs.Outer.{Outer, setting_in, world};
 ghost use Rattle.abc_run_state.specs.Standing.{IsSet, Stays};
-ghost use Rattle.abc_run_state.specs.Stops.{answer};
+ghost use Rattle.abc_run_state.specs.Stops.{part_outcome};
 ghost use Rattle.abc_meaning.specs.Making.{host_arguments, most_arguments, set_message as set_message_so};
-ghost use Rattle.abc_run_calls.specs.Calls.{IsMessage, messaged, texts};
+ghost use Rattle.abc_run_calls.specs.Calls.{IsMessage, message_arguments, message_texts};
 
 use abc_base::HostClass;
 use abc_heap_values::{ObjId, Span, Value};
@@ -34,7 +34,8 @@ pub fn message_of(
     ghost out: { Outer }
     requires set { IsSet linked.now s.old }
     requires there { count ≤ length (newest s.old.frames).stack }
-    ensures part { host_arguments (setting linked.now out) class (arguments count (newest s.old.frames)) (world s.old out) ≡ answer (messaged result) (world s.new out) }
+    ensures part { host_arguments (setting_in linked.now out) class (arguments count (newest s.old.frames))
+        (world s.old out) ≡ part_outcome (message_arguments result) (world s.new out) }
     ensures stays { Stays linked.now s.old s.new }
     ensures there { IfOk result (IsMessage linked.now s.new.arena) }
 {
@@ -59,7 +60,9 @@ pub fn set_message(
     requires set { IsSet linked.now s.old }
     requires inside { IsObject s.old.arena o }
     requires message { IsMessage linked.now s.old.arena message }
-    ensures part { (out : Outer) → set_message_so (setting linked.now out) o (texts message) (world s.old out) ≡ answer result (world s.new out) }
+    ensures part { (out : Outer)
+        → set_message_so (setting_in linked.now out) o (message_texts message) (world s.old out)
+        ≡ part_outcome result (world s.new out) }
     ensures stays { Stays linked.now s.old s.new }
 {
     match message {

@@ -1,10 +1,10 @@
 ghost use Rattle.std.specs.Prelude.{◌≡◌, IsSome, Some, slice_get};
 ghost use Rattle.abc_link_names.specs.Owners.{body_of};
-ghost use Rattle.abc_run_state.specs.Outer.{Outer, setting};
-ghost use Rattle.abc_run_state.specs.Turns.{kept};
+ghost use Rattle.abc_run_state.specs.Outer.{Outer, setting_in};
+ghost use Rattle.abc_run_state.specs.Turns.{size_of_routine};
 ghost use Rattle.abc_verify_typing.specs.Routines.{takes_array as takes_array_so};
-ghost use Rattle.abc_meaning.specs.Setting.{may_take as may_take_so, routine_of};
-ghost use Rattle.abc_run_calls.specs.Entering.{entry_for, placed};
+ghost use Rattle.abc_meaning.specs.Setting.{may_take_arguments as may_take_so, routine_of};
+ghost use Rattle.abc_run_calls.specs.Entering.{entry_for, place_in_meaning};
 
 use abc_file_types::{Method, has_flag};
 use abc_frames::{Entry, Size};
@@ -49,7 +49,7 @@ pub fn may_take(method: &Method, count: u32) -> bool
 /// What the frame of a method may keep.
 fn size_of(linked: &Linked, method: u32) -> Size
     requires { IsSome (body_of linked.now.file method) }
-    ensures { (out : Outer) → result ≡ kept (routine_of (setting linked.now out) method) }
+    ensures { (out : Outer) → result ≡ size_of_routine (routine_of (setting_in linked.now out) method) }
 {
     let Some(number) = linked.body_of(method) else {
         unreachable!()
@@ -65,7 +65,7 @@ fn size_of(linked: &Linked, method: u32) -> Size
 /// What a method that is entered brings: where it runs, and what its frame may keep.
 pub fn entry_of(linked: &Linked, method: u32, at: Place) -> Entry
     requires { IsSome (body_of linked.now.file method) }
-    ensures { (out : Outer) → result ≡ entry_for (setting linked.now out) method (placed at) }
+    ensures { (out : Outer) → result ≡ entry_for (setting_in linked.now out) method (place_in_meaning at) }
 {
     Entry {
         method,

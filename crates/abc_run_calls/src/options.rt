@@ -1,9 +1,9 @@
 ghost use Rattle.std.specs.Prelude.{◌≡◌, ◌<◌, ◌^◌, Some};
 ghost use Rattle.abc_link_names.specs.Starts.{space_value as space_value_so};
-ghost use Rattle.abc_run_state.specs.Outer.{Outer, setting};
-ghost use Rattle.abc_run_state.specs.Stops.{answer};
+ghost use Rattle.abc_run_state.specs.Outer.{Outer, setting_in};
+ghost use Rattle.abc_run_state.specs.Stops.{part_outcome};
 ghost use Rattle.abc_meaning.specs.Entering.{gives_option};
-ghost use Rattle.abc_meaning.specs.Setting.{Setting, raw_value, value_of_option};
+ghost use Rattle.abc_meaning.specs.Setting.{Setting, value_of_raw, value_of_option};
 ghost use Rattle.abc_meaning.specs.World.{World};
 
 use abc_base::Fault;
@@ -14,7 +14,7 @@ use abc_run_state::{Stop, int_value, string_at, uint_value};
 
 /// A namespace of the pool; 0 is null.
 fn space_value(index: u32) -> Value
-    ensures { (p : Setting) → raw_value p (space_value_so index) ≡ Some result }
+    ensures { (p : Setting) → value_of_raw p (space_value_so index) ≡ Some result }
 {
     if index == 0 {
         Value::Null
@@ -26,7 +26,7 @@ fn space_value(index: u32) -> Value
 /// The value of an option; a double is none.
 fn value_of(linked: &Linked, option: OptionValue) -> Option<Value>
     requires { option.value < 2 ^ 30 }
-    ensures { (out : Outer) → value_of_option (setting linked.now out) option ≡ result }
+    ensures { (out : Outer) → value_of_option (setting_in linked.now out) option ≡ result }
 {
     match option.kind {
         ValueKind::Undefined => Some(Value::Undefined),
@@ -50,7 +50,8 @@ fn value_of(linked: &Linked, option: OptionValue) -> Option<Value>
 /// What an option gives; one that is a double is the fault.
 pub fn option_given(linked: &Linked, option: OptionValue) -> Result<Value, Stop>
     requires { option.value < 2 ^ 30 }
-    ensures { (out : Outer) (w : World) → gives_option (setting linked.now out) (Some option) w ≡ answer result w }
+    ensures { (out : Outer) (w : World)
+        → gives_option (setting_in linked.now out) (Some option) w ≡ part_outcome result w }
 {
     match value_of(linked, option) {
         Some(v) => Ok(v),

@@ -4,9 +4,9 @@ ghost use Rattle.abc_objects.specs.Values.{Exists};
 ghost use Rattle.abc_run_state.specs.Outer.{Outer, world};
 ghost use Rattle.abc_run_state.specs.Stops.{IsOpen};
 ghost use Rattle.abc_meaning.specs.Entering.{global};
-ghost use Rattle.abc_meaning.specs.Objects.{kept_by, instances_of, place_of_owner as owner_place, statics_of};
+ghost use Rattle.abc_meaning.specs.Objects.{place_kept_by, instances_of, place_of_owner as owner_place, statics_of};
 ghost use Rattle.abc_meaning.specs.World.{Went};
-ghost use Rattle.abc_run_calls.specs.Entering.{placed};
+ghost use Rattle.abc_run_calls.specs.Entering.{place_in_meaning};
 
 use abc_heap_store::What;
 use abc_heap_values::Value;
@@ -29,8 +29,9 @@ pub fn global_of(linked: &Linked, s: &State, script: u32) -> Value
 fn statics_place(linked: &Linked, s: &State, class: u32) -> Place
     ghost out: { Outer }
     requires over { StandsOver linked.now s.now.arena }
-    requires free { IsOpen (kept_by statics_of class (world s.now out)) }
-    ensures { kept_by statics_of class (world s.now out) ≡ Went (world s.now out) (placed result) }
+    requires free { IsOpen (place_kept_by statics_of class (world s.now out)) }
+    ensures { place_kept_by statics_of class (world s.now out)
+        ≡ Went (world s.now out) (place_in_meaning result) }
 {
     let _ = linked;
     let Some(o) = s.arena.class_object(class) else {
@@ -49,8 +50,9 @@ fn statics_place(linked: &Linked, s: &State, class: u32) -> Place
 fn instances_place(linked: &Linked, s: &State, class: u32) -> Place
     ghost out: { Outer }
     requires over { StandsOver linked.now s.now.arena }
-    requires free { IsOpen (kept_by instances_of class (world s.now out)) }
-    ensures { kept_by instances_of class (world s.now out) ≡ Went (world s.now out) (placed result) }
+    requires free { IsOpen (place_kept_by instances_of class (world s.now out)) }
+    ensures { place_kept_by instances_of class (world s.now out)
+        ≡ Went (world s.now out) (place_in_meaning result) }
 {
     let _ = linked;
     let Some(o) = s.arena.class_object(class) else {
@@ -74,7 +76,7 @@ pub fn place_of_owner(linked: &Linked, s: &State, owner: Owner) -> Place
     ghost out: { Outer }
     requires over { StandsOver linked.now s.now.arena }
     requires free { IsOpen (owner_place owner (world s.now out)) }
-    ensures { owner_place owner (world s.now out) ≡ Went (world s.now out) (placed result) }
+    ensures { owner_place owner (world s.now out) ≡ Went (world s.now out) (place_in_meaning result) }
 {
     match owner {
         Owner::ScriptInit(script) => Place {

@@ -4,17 +4,17 @@ use Rattle.std.specs.Prelude.{None, Some}
 use Rattle.std.specs.declared.option.Option.{Option}
 use Rattle.abc_heap_values.specs.declared.values.Value.{Value}
 use Rattle.abc_heap_values.specs.declared.values.Value.TheVariants.{Undefined}
-use Rattle.abc_run_names.specs.Named.{parts_count, parts_for}
+use Rattle.abc_run_names.specs.Named.{name_parts_count, parts_for}
 use Rattle.abc_frames.specs.Frame.{Frame}
-use Rattle.abc_meaning.specs.Names.{form_in}
+use Rattle.abc_meaning.specs.Names.{form_of_name}
 use Rattle.abc_run_state.specs.Operands.{operand_at}
 use Rattle.abc_meaning.specs.Setting.{Setting}
 use Rattle.abc_file_types.specs.declared.names.Multiname.{Multiname}
 use Rattle.abc_file_types.specs.declared.names.Multiname.TheVariants as names
 use Rattle.abc_verify_typing.specs.Effects.{runtime}
-use Rattle.abc_verify_typing.specs.Rules.{is_name, is_plain}
+use Rattle.abc_verify_typing.specs.Rules.{is_static_name, is_plain_multiname}
 
-pub counted : (p : Setting) (m : Option Multiname) → is_name m ≡ true → length (runtime m) ≡ parts_count (form_in p m)
+pub counted : (p : Setting) (m : Option Multiname) → is_static_name m ≡ true → length (runtime m) ≡ name_parts_count (form_of_name p m)
 counted p None e = refl
 counted p (Some (names.QName false ns i)) e = refl
 counted p (Some (names.QName true ns i)) e = refl
@@ -36,7 +36,7 @@ two_at f k b =
     let first : k < length f.stack = omega (arith, b) in
     ap (take 2) (drop-cons f.stack k Undefined first ∙ ap (λ (i : ℕ). operand_at k f ∷ drop i f.stack) (sym (add-one k)) ∙ ap (λ (vs : List Value). operand_at k f ∷ vs) (drop-cons f.stack (k + 1) Undefined b))
 
-pub parts_at_place : (p : Setting) (m : Option Multiname) (k : ℕ) (f : Frame) → is_name m ≡ true → k + length (runtime m) ≤ length f.stack → take (length (runtime m)) (drop k f.stack) ≡ parts_for (form_in p m) k f
+pub parts_at_place : (p : Setting) (m : Option Multiname) (k : ℕ) (f : Frame) → is_static_name m ≡ true → k + length (runtime m) ≤ length f.stack → take (length (runtime m)) (drop k f.stack) ≡ parts_for (form_of_name p m) k f
 parts_at_place p None k f e b = refl
 parts_at_place p (Some (names.QName false ns i)) k f e b = refl
 parts_at_place p (Some (names.QName true ns i)) k f e b = refl
@@ -51,7 +51,7 @@ parts_at_place p (Some (names.RtL true)) k f e b = absurd cc
 parts_at_place p (Some (names.TypeName base params)) k f e b = refl
 
 -- a name without runtime parts
-pub plain_parts : (p : Setting) (m : Option Multiname) (k : ℕ) (f : Frame) → is_plain m ≡ true → parts_for (form_in p m) k f ≡ []
+pub plain_parts : (p : Setting) (m : Option Multiname) (k : ℕ) (f : Frame) → is_plain_multiname m ≡ true → parts_for (form_of_name p m) k f ≡ []
 plain_parts p None k f e = refl
 plain_parts p (Some (names.QName false ns i)) k f e = refl
 plain_parts p (Some (names.QName true ns i)) k f e = refl

@@ -10,7 +10,7 @@ use Rattle.abc_run_calls.specs.Calls.{CanFinish}
 use Rattle.abc_run_dispatch.specs.Dispatching.{CanDispatch, DispatchesHere, IsDoneHereIf}
 use Rattle.abc_run_state.proofs.Told.{runs_leaves, told_leaves}
 use Rattle.abc_run_state.specs.Answers.{goes_as}
-use Rattle.abc_run_state.specs.Outer.{Outer, setting}
+use Rattle.abc_run_state.specs.Outer.{Outer, setting_in}
 use Rattle.abc_run_state.specs.declared.state.Left.{Left}
 use Rattle.abc_run_state.specs.declared.state.Left.TheVariants as lefts
 use Rattle.abc_run_state.specs.declared.state.State.{State}
@@ -37,7 +37,7 @@ module _ (l : LinkedFile) (out : Outer) (s : State) where
 
     pub dispatches_run : (done : Result Unit Stop) → RunsHere l out i s done new → left ≡ goes_as done → DispatchesHere l out i s goes left new
     dispatches_run done h e = record {
-      leaves = runs_leaves l out (act_here (setting l out) (newest s.frames) i) s new done left e h.runs;
+      leaves = runs_leaves l out (act_here (setting_in l out) (newest s.frames) i) s new done left e h.runs;
       finishes = goes_finishes l done new left e;
       goes = on;
       limit = h.limit;
@@ -45,7 +45,7 @@ module _ (l : LinkedFile) (out : Outer) (s : State) where
 
     pub dispatches_left : (done : Result Left Stop) → LeavesHere l out i s done new → CanFinish l done new → left ≡ done → DispatchesHere l out i s goes left new
     dispatches_left done h can e = record {
-      leaves = told_leaves l out (act_here (setting l out) (newest s.frames) i) s new done left e h.leaves;
+      leaves = told_leaves l out (act_here (setting_in l out) (newest s.frames) i) s new done left e h.leaves;
       finishes = told_finishes l done new left e can;
       goes = on;
       limit = h.limit;
@@ -55,7 +55,7 @@ module _ (l : LinkedFile) (out : Outer) (s : State) where
 
   pub dispatches_done : (i : Instr) (new : State) (goes : Bool) (left : Result Left Stop) → left ≡ Ok lefts.Goes → IsDoneHereIf true l out i s new → DispatchesHere l out i s goes left new
   dispatches_done i new goes left none h = record {
-    leaves = runs_leaves l out (act_here (setting l out) (newest s.frames) i) s new (Ok tt) left none h.0;
+    leaves = runs_leaves l out (act_here (setting_in l out) (newest s.frames) i) s new (Ok tt) left none h.0;
     finishes = goes_finishes l (Ok tt) new left none;
     goes = λ e. none;
     limit = h.1;

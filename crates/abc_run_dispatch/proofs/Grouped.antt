@@ -10,16 +10,16 @@ use Rattle.abc_run_values.specs.Ready.{CanRun}
 use Rattle.abc_meaning.specs.Step.{does_row}
 use Rattle.abc_link_names.specs.Linked.{LinkedFile}
 use Rattle.abc_verify_typing.specs.Instructions.{opcode}
-use Rattle.abc_verify_typing.specs.Rows.{Shape, find, row_at, table}
+use Rattle.abc_verify_typing.specs.Rows.{Shape, find, row_at, table_of_rows}
 use Rattle.abc_frames.specs.Frame.{newest}
-use Rattle.abc_run_state.specs.Outer.{Outer, setting, world}
+use Rattle.abc_run_state.specs.Outer.{Outer, setting_in, world}
 use Rattle.abc_run_state.specs.Stops.{IsOpen}
 use Rattle.abc_run_state.specs.declared.state.State.{State}
 use Rattle.abc_run_dispatch.specs.StepGroups.{alone_ops, first_alone_ops, last_alone_ops, numbered_ops, ops_alone, ops_numbered, ops_paired, paired_ops, second_alone_ops}
 use Rattle.abc_run_dispatch.specs.declared.groups.Alone.{Alone}
 use Rattle.abc_run_dispatch.specs.declared.groups.Numbered.{Numbered}
 use Rattle.abc_run_dispatch.specs.declared.groups.Paired.{Paired}
-use Rattle.abc_file_types.specs.Opcodes.{form_at, form_of, info_at, is_in, name_in, named}
+use Rattle.abc_file_types.specs.Opcodes.{form_at, form_of, info_at, is_in, name_in, names_of_opcodes}
 use Rattle.abc_file_types.specs.declared.code.Instr.{Instr}
 use Rattle.abc_file_types.specs.declared.code.Instr.TheVariants.{One, Plain, Two}
 use Rattle.abc_file_types.specs.declared.opcodes.Form.{Form}
@@ -34,15 +34,15 @@ pub record HasRow (op : ℕ) : Type 0 where
   pub is : row_at op ≡ Some row
 
 pub row_there : (l : LinkedFile) (out : Outer) (s : State) (i : Instr) → CanRun l out s i → HasRow (opcode i)
-row_there l out s i can = go (routine_of (setting l out) (newest s.frames).method) refl
+row_there l out s i can = go (routine_of (setting_in l out) (newest s.frames).method) refl
   where
-    by_row : (r : Routine) (o : Option Shape) → row_at (opcode i) ≡ o → IsOpen (does_row (setting l out) r (newest s.frames) i o (world s out)) → HasRow (opcode i)
+    by_row : (r : Routine) (o : Option Shape) → row_at (opcode i) ≡ o → IsOpen (does_row (setting_in l out) r (newest s.frames) i o (world s out)) → HasRow (opcode i)
     by_row r None e free = absurd free
     by_row r (Some row) e free = record { row = row; is = e }
 
-    go : (o : Option Routine) → routine_of (setting l out) (newest s.frames).method ≡ o → HasRow (opcode i)
-    go None b = absurd (subst (λ (o : Option Routine). IsOpen (act_in (setting l out) (newest s.frames) i o (world s out))) b can.free)
-    go (Some r) b = by_row r (row_at (opcode i)) refl (subst (λ (o : Option Routine). IsOpen (act_in (setting l out) (newest s.frames) i o (world s out))) b can.free)
+    go : (o : Option Routine) → routine_of (setting_in l out) (newest s.frames).method ≡ o → HasRow (opcode i)
+    go None b = absurd (subst (λ (o : Option Routine). IsOpen (act_in (setting_in l out) (newest s.frames) i o (world s out))) b can.free)
+    go (Some r) b = by_row r (row_at (opcode i)) refl (subst (λ (o : Option Routine). IsOpen (act_in (setting_in l out) (newest s.frames) i o (world s out))) b can.free)
 
 -- ---- a test of all opcodes of a form that have rows
 
@@ -50,13 +50,13 @@ row_there l out s i can = go (routine_of (setting l out) (newest s.frames).metho
 some_form : (f g : Form) → (let some : Form → Option Form = λ x. Some x in some f ≡ some g) → f ≡ g
 some_form f g e = cc
 
-known_form : (op : ℕ) (form : Form) (name : Option (List ℕ)) → name_in named op ≡ name → form_at op ≡ Some form → form_of op ≡ form
+known_form : (op : ℕ) (form : Form) (name : Option (List ℕ)) → name_in names_of_opcodes op ≡ name → form_at op ≡ Some form → form_of op ≡ form
 unfolding form_at info_at
 known_form op form (Some name) h e = some_form (form_of op) form (rw h at e)
 known_form op form None h e = absurd (let none_ : None ≡ Some form = rw h at e in cc)
 
 pub form_is : (op : ℕ) (form : Form) → form_at op ≡ Some form → form_of op ≡ form
-form_is op form e = known_form op form (name_in named op) refl e
+form_is op form e = known_form op form (name_in names_of_opcodes op) refl e
 
 abbrev is_form : Form → Form → Bool
 is_form forms.Plain forms.Plain = true
@@ -82,29 +82,29 @@ passed form t (r ∷ rows) op row a e = go (λ f. passed form t rows op row part
     go more true q f = ap (passes form t) (eqb-true op r.0 q) ∙ parts.0
     go more false q f = more f
 
-grouped : (form : Form) (t : ℕ → Bool) (op : ℕ) → list_all (row_passes form t) table ≡ true → form_at op ≡ Some form → is_form form form ≡ true → HasRow op → t op ≡ true
+grouped : (form : Form) (t : ℕ → Bool) (op : ℕ) → list_all (row_passes form t) table_of_rows ≡ true → form_at op ≡ Some form → is_form form form ≡ true → HasRow op → t op ≡ true
 unfolding row_at
 grouped form t op all f own r =
     let same : is_form form (form_of op) ≡ true = ap (is_form form) (form_is op form f) ∙ own in
-    sym (ap (λ (b : Bool). not b || t op) same) ∙ passed form t table op r.row all r.is
+    sym (ap (λ (b : Bool). not b || t op) same) ∙ passed form t table_of_rows op r.row all r.is
 
-alone_rows : list_all (row_passes forms.Plain (λ n. is_in n alone_ops)) table ≡ true
-unfolding table
+alone_rows : list_all (row_passes forms.Plain (λ n. is_in n alone_ops)) table_of_rows ≡ true
+unfolding table_of_rows
 alone_rows = refl
 
-numbered_rows : list_all (row_passes forms.One (λ n. is_in n numbered_ops)) table ≡ true
-unfolding table
+numbered_rows : list_all (row_passes forms.One (λ n. is_in n numbered_ops)) table_of_rows ≡ true
+unfolding table_of_rows
 numbered_rows = refl
 
-paired_rows : list_all (row_passes forms.Two (λ n. is_in n paired_ops)) table ≡ true
-unfolding table
+paired_rows : list_all (row_passes forms.Two (λ n. is_in n paired_ops)) table_of_rows ≡ true
+unfolding table_of_rows
 paired_rows = refl
 
 abbrev is_branch : ℕ → Bool
 is_branch n = cond (nat_lt n 0x13) (is_in n first_branch_ops) (is_in n last_branch_ops)
 
-branch_rows : list_all (row_passes forms.Branch is_branch) table ≡ true
-unfolding table
+branch_rows : list_all (row_passes forms.Branch is_branch) table_of_rows ≡ true
+unfolding table_of_rows
 branch_rows = refl
 
 module _ (l : LinkedFile) (out : Outer) (s : State) where

@@ -18,7 +18,7 @@ use Rattle.abc_verify_typing.specs.Routines.{Routine, has_base, home_of, routine
 use Rattle.abc_verify_typing.specs.Rules.{super_layout}
 use Rattle.abc_verify_typing.specs.declared.home.Home.{Home}
 use Rattle.abc_verify_typing.specs.declared.home.Home.TheVariants.{Elsewhere, MakesInstances, OnInstances}
-use Rattle.abc_run_dispatch.specs.Homes.{HasHome, class_of}
+use Rattle.abc_run_dispatch.specs.Homes.{HasHome, class_of_owner}
 
 -- ---- the class is one of the file
 
@@ -36,14 +36,14 @@ based_if : (b : Bool) (home : Home) → is_some (super_layout OnInstance (if b t
 based_if true home e = refl
 based_if false home e = absurd (false≢true e)
 
-pub home_inside : (l : LinkedFile) (o : Owner) (k : ℕ) → HasHome l o → class_of o ≡ Some k → k < length l.file.instances
+pub home_inside : (l : LinkedFile) (o : Owner) (k : ℕ) → HasHome l o → class_of_owner o ≡ Some k → k < length l.file.instances
 home_inside l (owners.Iinit j) k h e = based_inside l k (let same : j ≡ k = cc in ap (has_base l) (sym same) ∙ based_if (has_base l j) (MakesInstances (layout_of l (parts.Instance j))) h)
 home_inside l (owners.Instance j) k h e = based_inside l k (let same : j ≡ k = cc in ap (has_base l) (sym same) ∙ based_if (has_base l j) (OnInstances (layout_of l (parts.Instance j))) h)
 home_inside l o k h e = absurd cc
 
 -- ---- and the layout that of its instances
 
-pub home_layout : (l : LinkedFile) (o : Owner) (k : ℕ) → HasHome l o → class_of o ≡ Some k → super_layout OnInstance (home_of l o) ≡ Some (layout_of l (parts.Instance k))
+pub home_layout : (l : LinkedFile) (o : Owner) (k : ℕ) → HasHome l o → class_of_owner o ≡ Some k → super_layout OnInstance (home_of l o) ≡ Some (layout_of l (parts.Instance k))
 home_layout l (owners.Iinit j) k h e =
     let same : j ≡ k = cc in
     let there = based_if (has_base l j) (MakesInstances (layout_of l (parts.Instance j))) h in
@@ -64,7 +64,7 @@ maker_home l o e = go (home_of l o) e
     go (OnInstances x) t = absurd (false≢true t)
     go Elsewhere t = absurd (false≢true t)
 
-pub maker_is : (l : LinkedFile) (o : Owner) (k : ℕ) → is_some (super_layout InMaker (home_of l o)) ≡ true → class_of o ≡ Some k → o ≡ owners.Iinit k
+pub maker_is : (l : LinkedFile) (o : Owner) (k : ℕ) → is_some (super_layout InMaker (home_of l o)) ≡ true → class_of_owner o ≡ Some k → o ≡ owners.Iinit k
 maker_is l (owners.Iinit j) k h e = let same : j ≡ k = cc in ap owners.Iinit same
 maker_is l (owners.Instance j) k h e = absurd (go (has_base l j) h)
   where

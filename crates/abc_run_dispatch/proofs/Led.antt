@@ -10,8 +10,8 @@ use Rattle.abc_run_values.specs.Ready.{CanRun}
 use Rattle.abc_run_values.specs.Returned.{IsReturned}
 use Rattle.abc_link_names.specs.Linked.{LinkedFile}
 use Rattle.abc_frames.specs.Frame.{Frame, newest}
-use Rattle.abc_run_state.specs.Outer.{Outer, setting, world}
-use Rattle.abc_run_state.specs.Turns.{Turned, turned}
+use Rattle.abc_run_state.specs.Outer.{Outer, setting_in, world}
+use Rattle.abc_run_state.specs.Turns.{Turned, turn_of}
 use Rattle.abc_meaning.specs.World.{World}
 use Rattle.abc_meaning.specs.Setting.{Setting, routine_of}
 use Rattle.abc_run_state.specs.declared.state.Left.{Left}
@@ -35,8 +35,8 @@ returned_finishes l (Err e) s h = tt
 pub run_as : (l : LinkedFile) (out : Outer) (s : State) (i j : Instr) → i ≡ j → CanRun l out s i → CanRun l out s j
 run_as l out s i j e can = subst (CanRun l out s) e can
 
-pub turned_as : (l : LinkedFile) (out : Outer) (s : State) (i j : Instr) (x : Turned) → i ≡ j → turned (setting l out) s.frames (act_here (setting l out) (newest s.frames) j (world s out)) ≡ x → turned (setting l out) s.frames (act_here (setting l out) (newest s.frames) i (world s out)) ≡ x
-turned_as l out s i j x e r = ap (λ (k : Instr). turned (setting l out) s.frames (act_here (setting l out) (newest s.frames) k (world s out))) e ∙ r
+pub turned_as : (l : LinkedFile) (out : Outer) (s : State) (i j : Instr) (x : Turned) → i ≡ j → turn_of (setting_in l out) s.frames (act_here (setting_in l out) (newest s.frames) j (world s out)) ≡ x → turn_of (setting_in l out) s.frames (act_here (setting_in l out) (newest s.frames) i (world s out)) ≡ x
+turned_as l out s i j x e r = ap (λ (k : Instr). turn_of (setting_in l out) s.frames (act_here (setting_in l out) (newest s.frames) k (world s out))) e ∙ r
 
 -- ---- the instruction at the frame's place is what its routine runs
 

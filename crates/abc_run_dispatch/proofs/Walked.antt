@@ -12,13 +12,13 @@ use Rattle.abc_run_values.proofs.Doing.{Does}
 use Rattle.abc_run_values.proofs.Opened.{here_of}
 use Rattle.abc_run_values.specs.Ready.{CanRun}
 use Rattle.abc_link_names.specs.Linked.{LinkedFile}
-use Rattle.abc_verify_typing.specs.Rows.{Shape, row_at, table}
+use Rattle.abc_verify_typing.specs.Rows.{Shape, row_at, table_of_rows}
 use Rattle.abc_frames.specs.Frame.{Frame, newest}
-use Rattle.abc_meaning.specs.At.{At, goes}
+use Rattle.abc_meaning.specs.At.{ActCase, goes}
 use Rattle.abc_meaning.specs.Table.{act_of, acts}
 use Rattle.abc_meaning.specs.Walking.{Position, has_next2, next_along, object_number, position, walks_to}
 use Rattle.abc_run_state.specs.Operands.{local_at}
-use Rattle.abc_run_state.specs.Outer.{Outer, setting, world}
+use Rattle.abc_run_state.specs.Outer.{Outer, setting_in, world}
 use Rattle.abc_meaning.specs.World.{World, see, some, ◌>>=◌}
 use Rattle.abc_meaning.specs.Setting.{Setting}
 use Rattle.abc_run_state.specs.declared.state.State.{State}
@@ -26,7 +26,7 @@ use Rattle.abc_file_types.specs.declared.code.Instr.TheVariants.{Two}
 use Rattle.abc_verify_typing.specs.Routines.{Routine}
 
 module _ (p : Setting) (r : Routine) (row : Shape) (f : Frame) (x y : ℕ) where
-  abbrev here : At
+  abbrev here : ActCase
   here = taking p (here_of p r f (Two 0x32 x y) row) f 0 []
 
   goes_to : (e : Option Position) (w : World) → walks_to here e w ≡ goes (walked_to x y f e) w
@@ -45,15 +45,15 @@ pub record Walks (l : LinkedFile) (out : Outer) (s : State) (x y : ℕ) : Type 0
   pub holder : x < length (newest s.frames).locals
   pub position : y < length (newest s.frames).locals
 
-walking : (l : LinkedFile) (out : Outer) (s : State) (x y : ℕ) (row : Shape) → Armed (setting l out) s.frames (Two 0x32 x y) (world s out) row has_next2 0 1 [] → x < length (newest s.frames).locals → y < length (newest s.frames).locals → Walks l out s x y
+walking : (l : LinkedFile) (out : Outer) (s : State) (x y : ℕ) (row : Shape) → Armed (setting_in l out) s.frames (Two 0x32 x y) (world s out) row has_next2 0 1 [] → x < length (newest s.frames).locals → y < length (newest s.frames).locals → Walks l out s x y
 walking l out s x y row a low high = record {
-  does = record { ready = a.ready; does = a.does ∙ walks_same (setting l out) a.routine row (newest s.frames) x y (world s out) low high };
+  does = record { ready = a.ready; does = a.does ∙ walks_same (setting_in l out) a.routine row (newest s.frames) x y (world s out) low high };
   holder = low;
   position = high;
 }
 
 pub op_32 : (l : LinkedFile) (out : Outer) (s : State) (x y : ℕ) → CanRun l out s (Two 0x32 x y) → Walks l out s x y
-unfolding row_at table act_of acts
+unfolding row_at table_of_rows act_of acts
 op_32 l out s x y can =
     let a = armed l out s (Two 0x32 x y) _ _ 0 1 [] can refl refl (none_taken _ _ _ refl refl) refl in
     let both = and_parts _ _ a.tests.locals in

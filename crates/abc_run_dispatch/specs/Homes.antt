@@ -8,10 +8,10 @@ use Rattle.abc_verify_typing.specs.declared.row.Site.TheVariants.{OnInstance}
 use Rattle.abc_verify_typing.specs.Routines.{home_of}
 use Rattle.abc_verify_typing.specs.Rules.{super_layout}
 
-abbrev pub class_of : Owner → Option ℕ
-class_of (Iinit k) = Some k
-class_of (Instance k) = Some k
-class_of other = None
+abbrev pub class_of_owner : Owner → Option ℕ
+class_of_owner (Iinit k) = Some k
+class_of_owner (Instance k) = Some k
+class_of_owner other = None
 
 -- a super operation may stand in a method of this owner
 abbrev pub HasHome : LinkedFile → Owner → Type 0

@@ -1,6 +1,6 @@
 ghost use Rattle.std.specs.Prelude.{◌≡◌, true};
 ghost use Rattle.abc_run_calls.specs.Calls.{CanFinish};
-ghost use Rattle.abc_run_calls.specs.Arguments.{IsKnown};
+ghost use Rattle.abc_run_calls.specs.Arguments.{HasArgumentRoom};
 ghost use Rattle.abc_run_values.specs.Here.{LeavesHere};
 ghost use Rattle.abc_run_values.specs.Ready.{CanRun};
 ghost use Rattle.abc_run_state.specs.Outer.{Outer};
@@ -19,7 +19,7 @@ use abc_run_state::{Left, State, Stop};
 pub fn run_call_value(linked: &Linked, s: &mut State, count: u32) -> Result<Left, Stop>
     ghost out: { Outer }
     requires run { CanRun linked.now out s.old (One CALL count) }
-    requires known { IsKnown linked.now s.old.given.limit }
+    requires known { HasArgumentRoom linked.now s.old.given.limit }
     ensures leaves { LeavesHere linked.now out (One CALL count) s.old result s.new }
     ensures finishes { CanFinish linked.now result s.new }
 {

@@ -1,4 +1,4 @@
-ghost use Rattle.abc_run_calls.specs.Arguments.{IsKnown};
+ghost use Rattle.abc_run_calls.specs.Arguments.{HasArgumentRoom};
 ghost use Rattle.abc_run_values.specs.Here.{RunsHere};
 ghost use Rattle.abc_run_values.specs.Ready.{CanRun};
 ghost use Rattle.abc_run_state.specs.Outer.{Outer};
@@ -13,7 +13,7 @@ use abc_run_state::{State, Stop};
 pub fn run_class(linked: &Linked, s: &mut State, n: u32) -> Result<(), Stop>
     ghost out: { Outer }
     requires run { CanRun linked.now out s.old (One NEWCLASS n) }
-    requires known { IsKnown linked.now s.old.given.limit }
+    requires known { HasArgumentRoom linked.now s.old.given.limit }
     ensures { RunsHere linked.now out (One NEWCLASS n) s.old result s.new }
 {
     new_class(linked, s, n)

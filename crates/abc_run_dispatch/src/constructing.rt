@@ -1,5 +1,5 @@
 ghost use Rattle.std.specs.Prelude.{◌≡◌};
-ghost use Rattle.abc_run_calls.specs.Arguments.{IsKnown};
+ghost use Rattle.abc_run_calls.specs.Arguments.{HasArgumentRoom};
 ghost use Rattle.abc_run_values.specs.Here.{RunsHere};
 ghost use Rattle.abc_run_values.specs.Ready.{CanRun};
 ghost use Rattle.abc_run_state.specs.Outer.{Outer};
@@ -14,7 +14,7 @@ use abc_run_state::{State, Stop};
 pub fn run_construct(linked: &Linked, s: &mut State, count: u32) -> Result<(), Stop>
     ghost out: { Outer }
     requires run { CanRun linked.now out s.old (One CONSTRUCT count) }
-    requires known { IsKnown linked.now s.old.given.limit }
+    requires known { HasArgumentRoom linked.now s.old.given.limit }
     ensures { RunsHere linked.now out (One CONSTRUCT count) s.old result s.new }
 {
     construct(linked, s, count)
@@ -29,7 +29,7 @@ pub fn run_construct_property(
 ) -> Result<(), Stop>
     ghost out: { Outer }
     requires run { CanRun linked.now out s.old (Two CONSTRUCTPROP n count) }
-    requires known { IsKnown linked.now s.old.given.limit }
+    requires known { HasArgumentRoom linked.now s.old.given.limit }
     ensures { RunsHere linked.now out (Two CONSTRUCTPROP n count) s.old result s.new }
 {
     construct_property(linked, s, n, count)

@@ -1,5 +1,5 @@
 ghost use Rattle.std.specs.Prelude.{◌≡◌, true, length};
-ghost use Rattle.abc_run_calls.specs.Arguments.{IsKnown};
+ghost use Rattle.abc_run_calls.specs.Arguments.{HasArgumentRoom};
 ghost use Rattle.abc_run_values.specs.Here.{RunsHere};
 ghost use Rattle.abc_run_values.specs.Ready.{CanRun};
 ghost use Rattle.abc_run_state.specs.Outer.{Outer};
@@ -16,7 +16,7 @@ use abc_run_state::{State, Stop};
 pub fn run_find(linked: &Linked, s: &mut State, op: u8, n: u32) -> Result<(), Stop>
     ghost out: { Outer }
     requires run { CanRun linked.now out s.old (One op n) }
-    requires known { IsKnown linked.now s.old.given.limit }
+    requires known { HasArgumentRoom linked.now s.old.given.limit }
     requires started { length s.old.started ≡ length linked.now.file.scripts }
     requires among { is_in op find_ops ≡ true }
     ensures { RunsHere linked.now out (One op n) s.old result s.new }

@@ -3,7 +3,7 @@ ghost use Rattle.abc_run_dispatch.specs.Dispatching.{DispatchesNewest};
 ghost use Rattle.abc_run_dispatch.specs.Held.{IsHeld};
 ghost use Rattle.abc_run_dispatch.specs.Ready.{CanStep, IsEquipped};
 ghost use Rattle.abc_frames.specs.Frame.{newest};
-ghost use Rattle.abc_run_state.specs.Outer.{Outer, setting};
+ghost use Rattle.abc_run_state.specs.Outer.{Outer, setting_in};
 ghost use Rattle.abc_meaning.specs.Setting.{routine_of};
 ghost use Rattle.abc_run_state.specs.declared.state.Left.TheVariants.{Goes};
 ghost use Rattle.abc_verify_typing.specs.Routines.{Routine};
@@ -57,7 +57,7 @@ fn instr_here<'a>(linked: &'a Linked, s: &State, held: &Held<'a>) -> &'a Instr
     requires can { CanStep linked.now out s.now }
     requires held { IsHeld linked.now held.now }
     requires method { held.now.method ≡ (newest s.now.frames).method }
-    ensures { (r : Routine) → routine_of (setting linked.now out) (newest s.now.frames).method ≡ Some r →
+    ensures { (r : Routine) → routine_of (setting_in linked.now out) (newest s.now.frames).method ≡ Some r →
         slice_get r.code (newest s.now.frames).place ≡ Some result.now }
 {
     let _ = linked;

@@ -1,6 +1,6 @@
 ghost use Rattle.std.specs.Prelude.{◌≡◌, ℕ, Some};
-ghost use Rattle.abc_run_dispatch.specs.Numbers.{number};
-ghost use Rattle.abc_verify_typing.specs.Instructions.{opcode, second};
+ghost use Rattle.abc_run_dispatch.specs.Numbers.{first_small_number};
+ghost use Rattle.abc_verify_typing.specs.Instructions.{opcode, second_local};
 
 use abc_file_types::Instr;
 
@@ -23,7 +23,7 @@ pub(crate) fn opcode_of(instr: &Instr) -> Option<u8>
 /// The first number below 2^30 that follows the opcode, or the target of a branch; 0 where there is none.
 #[inline(always)]
 pub(crate) fn number_of(instr: &Instr) -> u32
-    ensures { result ≡ number instr.now }
+    ensures { result ≡ first_small_number instr.now }
 {
     match instr {
         Instr::One(_, n) => *n,
@@ -36,7 +36,7 @@ pub(crate) fn number_of(instr: &Instr) -> u32
 /// The second number below 2^30 that follows the opcode; 0 where there is none.
 #[inline(always)]
 pub(crate) fn second_of(instr: &Instr) -> u32
-    ensures { result ≡ second instr.now }
+    ensures { result ≡ second_local instr.now }
 {
     match instr {
         Instr::Two(_, _, count) => *count,

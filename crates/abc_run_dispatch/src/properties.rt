@@ -1,5 +1,5 @@
 ghost use Rattle.std.specs.Prelude.{◌≡◌, true};
-ghost use Rattle.abc_run_calls.specs.Arguments.{IsKnown};
+ghost use Rattle.abc_run_calls.specs.Arguments.{HasArgumentRoom};
 ghost use Rattle.abc_run_values.specs.Here.{RunsHere};
 ghost use Rattle.abc_run_dispatch.specs.Dispatching.{IsDoneHereIf};
 ghost use Rattle.abc_run_values.specs.Ready.{CanRun};
@@ -21,7 +21,7 @@ use abc_run_state::{State, Stop};
 pub fn run_property(linked: &Linked, s: &mut State, op: u8, n: u32) -> Result<(), Stop>
     ghost out: { Outer }
     requires run { CanRun linked.now out s.old (One op n) }
-    requires known { IsKnown linked.now s.old.given.limit }
+    requires known { HasArgumentRoom linked.now s.old.given.limit }
     requires among { is_in op property_ops ≡ true }
     ensures { RunsHere linked.now out (One op n) s.old result s.new }
 {

@@ -1,10 +1,10 @@
 ghost use Rattle.std.specs.Prelude.{◌≡◌, ◌+◌, ◌<◌, ◌^◌, true};
 ghost use Rattle.abc_run_calls.specs.Calls.{CanFinish};
-ghost use Rattle.abc_run_calls.specs.Arguments.{IsKnown};
+ghost use Rattle.abc_run_calls.specs.Arguments.{HasArgumentRoom};
 ghost use Rattle.abc_run_members.specs.Members.{parts_at};
 ghost use Rattle.abc_run_values.specs.Here.{LeavesHere, RunsHere};
 ghost use Rattle.abc_run_values.specs.Ready.{CanRun};
-ghost use Rattle.abc_run_state.specs.Outer.{Outer, setting};
+ghost use Rattle.abc_run_state.specs.Outer.{Outer, setting_in};
 ghost use Rattle.abc_file_types.specs.Opcodes.{is_in};
 ghost use Rattle.abc_file_types.specs.declared.code.Instr.TheVariants.{One, Two};
 ghost use Rattle.abc_run_dispatch.specs.ScopeGroups.{super_call_ops, super_ops};
@@ -20,7 +20,7 @@ use abc_run_state::{How, Left, State, Stop};
 /// How many operands a call by a name takes: its arguments, the parts of the name, and the receiver.
 fn taken_with(linked: &Linked, n: u32, count: u32) -> u32
     requires { count < 2 ^ 30 }
-    ensures { (out : Outer) → result ≡ count + parts_at (setting linked.now out) n + 1 }
+    ensures { (out : Outer) → result ≡ count + parts_at (setting_in linked.now out) n + 1 }
 {
     count + parts_of(linked, n) + 1
 }
@@ -29,7 +29,7 @@ fn taken_with(linked: &Linked, n: u32, count: u32) -> u32
 fn read_super(linked: &Linked, s: &mut State, n: u32) -> Result<(), Stop>
     ghost out: { Outer }
     requires run { CanRun linked.now out s.old (One GETSUPER n) }
-    requires known { IsKnown linked.now s.old.given.limit }
+    requires known { HasArgumentRoom linked.now s.old.given.limit }
     ensures { RunsHere linked.now out (One GETSUPER n) s.old result s.new }
 {
     let from = layout_here(linked, s);
@@ -40,7 +40,7 @@ fn read_super(linked: &Linked, s: &mut State, n: u32) -> Result<(), Stop>
 fn write_super(linked: &Linked, s: &mut State, n: u32) -> Result<(), Stop>
     ghost out: { Outer }
     requires run { CanRun linked.now out s.old (One SETSUPER n) }
-    requires known { IsKnown linked.now s.old.given.limit }
+    requires known { HasArgumentRoom linked.now s.old.given.limit }
     ensures { RunsHere linked.now out (One SETSUPER n) s.old result s.new }
 {
     let from = layout_here(linked, s);
@@ -51,7 +51,7 @@ fn write_super(linked: &Linked, s: &mut State, n: u32) -> Result<(), Stop>
 fn make_super(linked: &Linked, s: &mut State, count: u32) -> Result<(), Stop>
     ghost out: { Outer }
     requires run { CanRun linked.now out s.old (One CONSTRUCTSUPER count) }
-    requires known { IsKnown linked.now s.old.given.limit }
+    requires known { HasArgumentRoom linked.now s.old.given.limit }
     ensures { RunsHere linked.now out (One CONSTRUCTSUPER count) s.old result s.new }
 {
     let class = class_here(linked, s);
@@ -62,7 +62,7 @@ fn make_super(linked: &Linked, s: &mut State, count: u32) -> Result<(), Stop>
 pub fn run_super(linked: &Linked, s: &mut State, op: u8, n: u32) -> Result<(), Stop>
     ghost out: { Outer }
     requires run { CanRun linked.now out s.old (One op n) }
-    requires known { IsKnown linked.now s.old.given.limit }
+    requires known { HasArgumentRoom linked.now s.old.given.limit }
     requires among { is_in op super_ops ≡ true }
     ensures { RunsHere linked.now out (One op n) s.old result s.new }
 {
@@ -78,7 +78,7 @@ pub fn run_super(linked: &Linked, s: &mut State, op: u8, n: u32) -> Result<(), S
 fn call_pushing(linked: &Linked, s: &mut State, n: u32, count: u32) -> Result<Left, Stop>
     ghost out: { Outer }
     requires run { CanRun linked.now out s.old (Two CALLSUPER n count) }
-    requires known { IsKnown linked.now s.old.given.limit }
+    requires known { HasArgumentRoom linked.now s.old.given.limit }
     ensures leaves { LeavesHere linked.now out (Two CALLSUPER n count) s.old result s.new }
     ensures finishes { CanFinish linked.now result s.new }
 {
@@ -91,7 +91,7 @@ fn call_pushing(linked: &Linked, s: &mut State, n: u32, count: u32) -> Result<Le
 fn call_dropping(linked: &Linked, s: &mut State, n: u32, count: u32) -> Result<Left, Stop>
     ghost out: { Outer }
     requires run { CanRun linked.now out s.old (Two CALLSUPERVOID n count) }
-    requires known { IsKnown linked.now s.old.given.limit }
+    requires known { HasArgumentRoom linked.now s.old.given.limit }
     ensures leaves { LeavesHere linked.now out (Two CALLSUPERVOID n count) s.old result s.new }
     ensures finishes { CanFinish linked.now result s.new }
 {
@@ -110,7 +110,7 @@ pub fn run_super_call(
 ) -> Result<Left, Stop>
     ghost out: { Outer }
     requires run { CanRun linked.now out s.old (Two op n count) }
-    requires known { IsKnown linked.now s.old.given.limit }
+    requires known { HasArgumentRoom linked.now s.old.given.limit }
     requires among { is_in op super_call_ops ≡ true }
     ensures leaves { LeavesHere linked.now out (Two op n count) s.old result s.new }
     ensures finishes { CanFinish linked.now result s.new }

@@ -2,16 +2,16 @@
 use Rattle.std.proofs.Common.{◌≡◌, ℕ, ℤ, List, [], ◌∷◌, drop, refl, sym, ap, ◌∙◌, subst}
 use Rattle.std.specs.Prelude.{Ok, Err}
 use Rattle.std.specs.declared.result.Result.{Result}
-use Rattle.abc_run_finish.specs.Calling.{CanBegin, enters_last}
+use Rattle.abc_run_finish.specs.Calling.{CanBeginCall, enters_last}
 use Rattle.abc_meaning.specs.Calls.{begins_call, entered_call, enters_call, numbers, stops_call}
 use Rattle.abc_heap_values.specs.declared.values.Value.{Value}
-use Rattle.abc_run_finish.specs.Ending.{IsFree, IsSized, IsThrowable}
-use Rattle.abc_run_calls.specs.Arguments.{makes_arguments, receiver}
+use Rattle.abc_run_finish.specs.Ending.{IsUnstuck, IsSized, IsThrowable}
+use Rattle.abc_run_calls.specs.Arguments.{makes_arguments, first_receiver}
 use Rattle.abc_meaning.specs.Fair.{IsFairPart}
 use Rattle.abc_run_finish.proofs.Started.{arguments_open, entered_is, entered_stops, first_halts, first_put, first_sized, part_open}
 use Rattle.abc_run_finish.proofs.Stepped.{throwable}
 use Rattle.abc_run_finish.specs.Starting.{alone_if, begins, frames_alone}
-use Rattle.abc_run_finish.specs.Steps.{stepped}
+use Rattle.abc_run_finish.specs.Steps.{step_of_turn}
 use Rattle.abc_heap_store.specs.declared.records.Full.{Full}
 use Rattle.abc_heap_store.specs.declared.records.Limits.{Limits}
 use Rattle.abc_meaning.specs.Throwing.{Stepped, goes_on, last_script}
@@ -20,7 +20,7 @@ use Rattle.abc_link_names.specs.Linked.{LinkedFile}
 use Rattle.abc_link_names.specs.Owners.{owner_of}
 use Rattle.abc_frames.specs.Frame.{Frame, Frames, room_for}
 use Rattle.abc_frames.specs.declared.records.Size.{Size}
-use Rattle.abc_run_state.specs.Outer.{Outer, setting, world}
+use Rattle.abc_run_state.specs.Outer.{Outer, setting_in, world}
 use Rattle.abc_run_state.specs.Stops.{IsOpen, why as why_of}
 use Rattle.abc_run_state.specs.Turns.{GoesOn, Gives, Halts, Turned, size_for}
 use Rattle.abc_meaning.specs.Entering.{enters, global}
@@ -45,7 +45,7 @@ module _ (p : Setting) (m : ℕ) (given : List Value) (w : World) (this : Value)
   pub last_open : IsOpen (enters_last p m given w) → IsOpen (makes_arguments p m given w)
   last_open h = arguments_open p m this at given w (subst (λ (o : Outcome Frame). IsOpen o) last_is h)
 
-  pub last_alone : (items : List Value) (after : World) → items ≡ this ∷ drop 1 items → makes_arguments p m given w ≡ Went after (drop 1 items) → enters_last p m given w ≡ frames_alone p m at (receiver items) (drop 1 items) given after
+  pub last_alone : (items : List Value) (after : World) → items ≡ this ∷ drop 1 items → makes_arguments p m given w ≡ Went after (drop 1 items) → enters_last p m given w ≡ frames_alone p m at (first_receiver items) (drop 1 items) given after
   last_alone items after first e = last_is ∙ entered_is p m this at items given w after first e
 
   pub last_stops : (after : World) (why : Stop) → makes_arguments p m given w ≡ Stopped after why → enters_last p m given w ≡ Stopped after why
@@ -58,7 +58,7 @@ called p m (GoesOn w q) = goes_on w q.living
 called p m (Gives w q v) = goes_on w q.living
 called p m (Halts w q why) = stops_call p m w why
 
-put_called : (p : Setting) (m : ℕ) (r : Result Unit Full) (size : Size) (w : World) (g : Frame) (q : Frames) → stepped p (alone_if r size w g q) ≡ called p m (alone_if r size w g q)
+put_called : (p : Setting) (m : ℕ) (r : Result Unit Full) (size : Size) (w : World) (g : Frame) (q : Frames) → step_of_turn p (alone_if r size w g q) ≡ called p m (alone_if r size w g q)
 put_called p m (Ok u) size w g q = refl
 put_called p m (Err full) size w g q = refl
 
@@ -70,9 +70,9 @@ entered_called p m w q (Stopped n why) s none fair = refl
 
 -- ---- a call that can begin, with these numbers
 
-module _ (l : LinkedFile) (out : Outer) (m : ℕ) (s : State) (ns : List ℤ) (given : List Value) (can : CanBegin l out m ns s) (is : given ≡ numbers ns) where
+module _ (l : LinkedFile) (out : Outer) (m : ℕ) (s : State) (ns : List ℤ) (given : List Value) (can : CanBeginCall l out m ns s) (is : given ≡ numbers ns) where
   abbrev p : Setting
-  p = setting l out
+  p = setting_in l out
 
   abbrev here : World
   here = world s out
@@ -109,7 +109,7 @@ module _ (l : LinkedFile) (out : Outer) (m : ℕ) (s : State) (ns : List ℤ) (g
       pub none : new.frames.living ≡ []
       pub value : IsThrowable l new.arena e
       pub sized : IsSized p new.arena.limits new.frames
-      pub free : IsFree (stops_call p m (world new out) (why_of e))
+      pub free : IsUnstuck (stops_call p m (world new out) (why_of e))
 
     pub can_end : (e : Why) → begins p s.frames entered ≡ Halts (world new out) new.frames (why_of e) → CanEnd e
     can_end e b =
@@ -119,5 +119,5 @@ module _ (l : LinkedFile) (out : Outer) (m : ℕ) (s : State) (ns : List ℤ) (g
           none = ap (λ (q : Frames). q.living) (sym h.same) ∙ can.none;
           value = throwable l out new e h.fair;
           sized = subst (λ (x : Limits). IsSized p x new.frames) (sym h.left.limits) (subst (IsSized p s.arena.limits) h.same can.sized);
-          free = subst IsFree (stops_is (why_of e) b) can.free;
+          free = subst IsUnstuck (stops_is (why_of e) b) can.free;
         }

@@ -1,6 +1,6 @@
 -- Frames that are left one after the other.
 use Rattle.std.proofs.Common.{◌≡◌, ℕ, ◌+◌, ◌<◌, ◌≤◌, List, [], ◌∷◌, length, refl, sym, ap, ◌∙◌, arith}
-use Rattle.abc_frames.specs.Frame.{Frame, Frames, left, no_frames, rest_of, under}
+use Rattle.abc_frames.specs.Frame.{Frame, Frames, after_leave, no_frames, rest_of, under}
 use Rattle.abc_frames.specs.declared.records.Size.{Size}
 
 -- some are left by now, and those that live have their sizes, as before
@@ -17,16 +17,16 @@ rest_long : (ss : List Size) → 0 < length ss → length (rest_of ss) + 1 ≡ l
 rest_long [] b = absurd (omega arith)
 rest_long (s ∷ ss) b = omega arith
 
-pub fewer : (q r : Frames) → 0 < length q.living → r ≡ left q → length r.living + 1 ≡ length q.living
+pub fewer : (q r : Frames) → 0 < length q.living → r ≡ after_leave q → length r.living + 1 ≡ length q.living
 fewer q r b e = ap (λ (x : Frames). length x.living + 1) e ∙ under_long q.living b
 
-more_on : (q r : Frames) → 0 < length q.living → r ≡ left q → length q.sizes ≡ length q.living → length r.sizes ≡ length r.living
+more_on : (q r : Frames) → 0 < length q.living → r ≡ after_leave q → length q.sizes ≡ length q.living → length r.sizes ≡ length r.living
 more_on q r b e many =
     let sizes = rest_long q.sizes (omega arith) in
     let frames = under_long q.living b in
     ap (λ (x : Frames). length x.sizes) e ∙ omega (arith, many, sizes, frames) ∙ ap (λ (x : Frames). length x.living) (sym e)
 
-pub left_on : (old q r : Frames) → 0 < length q.living → r ≡ left q → AreLeft old q → AreLeft old r
+pub left_on : (old q r : Frames) → 0 < length q.living → r ≡ after_leave q → AreLeft old q → AreLeft old r
 left_on old q r b e a =
     record {
       many = λ so. more_on q r b e (a.many so);

@@ -10,11 +10,11 @@ use Rattle.abc_heap_store.specs.declared.records.Limit.TheVariants as limit
 use Rattle.abc_heap_store.specs.declared.records.Limits.{Limits}
 use Rattle.abc_meaning.specs.Meaning.{first_world, too_small}
 use Rattle.abc_base.specs.declared.formula.Formula.{Formula}
-use Rattle.abc_objects.specs.Opening.{IsOpened, IsUnopened, IsWithin, PassesAtOpening, formula_names, opening, opening_counts}
+use Rattle.abc_objects.specs.Opening.{IsHeapOpened, IsUnopened, IsOpeningWithin, PassesAtOpening, formula_names, opening, opening_counts}
 use Rattle.abc_objects.specs.declared.error.OpenError.{OpenError}
 use Rattle.abc_objects.specs.declared.error.OpenError.TheVariants as errors
 use Rattle.abc_objects.proofs.Steps.{ledger_opened}
-use Rattle.abc_meaning.specs.Openings.{IsRefused, setting}
+use Rattle.abc_meaning.specs.Openings.{IsOpeningRefused, setting}
 use Rattle.abc_link_names.specs.Linked.{IsLinkedFile, LinkedFile}
 
 is_less : (a b : ℕ) → a < b → nat_lt a b ≡ true
@@ -37,7 +37,7 @@ small_by a b = if a then Some limit.Objects else (if b then Some limit.Cells els
 small_is : (h : Heap) (a b : Bool) → nat_lt h.limits.objects (length h.objects) ≡ a → nat_lt h.limits.cells (cells_used h) ≡ b → too_small h ≡ small_by a b
 small_is h a b e f = ap (λ (t : Bool). small_by t (nat_lt h.limits.cells (cells_used h))) e ∙ ap (small_by a) f
 
-pub is_large : (h : Heap) (counts : Limits) → ledger h ≡ counts → IsWithin counts h.limits → too_small h ≡ None
+pub is_large : (h : Heap) (counts : Limits) → ledger h ≡ counts → IsOpeningWithin counts h.limits → too_small h ≡ None
 is_large h counts e w =
     let objects = ap (λ (l : Limits). l.objects) e in
     let cells = ap (λ (l : Limits). l.cells) e in
@@ -57,12 +57,12 @@ is_small h counts limit.Stack e w = absurd w
 
 -- ---- a file's opening
 
-pub fits_in : (l : LinkedFile) (fs : List Formula) (limits : Limits) (h : Heap) → IsLinkedFile l → IsOpened l (formula_names fs) limits h → too_small (first_world (setting l fs) limits).heap ≡ None
+pub fits_in : (l : LinkedFile) (fs : List Formula) (limits : Limits) (h : Heap) → IsLinkedFile l → IsHeapOpened l (formula_names fs) limits h → too_small (first_world (setting l fs) limits).heap ≡ None
 fits_in l fs limits h k o =
     let counts = opening_counts l (length (formula_names fs)) in
     let same : opening_counts l (length fs) ≡ counts = ap (opening_counts l) (sym (length-map fs (λ (f : Formula). f.name))) in
     is_large (opening l (formula_names fs) limits) counts (ledger_opened l fs limits (opening l (formula_names fs) limits) k refl ∙ same) o.0
 
-pub refused : (l : LinkedFile) (fs : List Formula) (limits : Limits) (e : OpenError) → IsLinkedFile l → IsUnopened (opening_counts l (length fs)) limits e → IsRefused (setting l fs) limits e
+pub refused : (l : LinkedFile) (fs : List Formula) (limits : Limits) (e : OpenError) → IsLinkedFile l → IsUnopened (opening_counts l (length fs)) limits e → IsOpeningRefused (setting l fs) limits e
 refused l fs limits errors.NoMemory k u = tt
 refused l fs limits (errors.TooSmall which) k u = is_small (opening l (formula_names fs) limits) (opening_counts l (length fs)) which (ledger_opened l fs limits (opening l (formula_names fs) limits) k refl) u

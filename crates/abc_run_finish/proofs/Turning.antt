@@ -5,7 +5,7 @@ use Rattle.std.proofs.lemmas.List.{drop-set, drop-set-lt, length-set, reverse-ap
 use Rattle.abc_heap_values.specs.declared.values.Value.{Value}
 use Rattle.abc_heap_values.specs.declared.values.Value.TheVariants.{Undefined}
 use Rattle.abc_run_finish.specs.Turned.{turned_at}
-use Rattle.abc_meaning.specs.World.{Outcome, Run, Stop, Stopped, Went, World, and_then, done, each_of, ◌>>=◌}
+use Rattle.abc_meaning.specs.World.{Outcome, Run, Stop, Stopped, Went, World, and_then, pure, each_of, ◌>>=◌}
 
 -- ---- what is made leaves the deeper ones as they are
 
@@ -57,21 +57,21 @@ first_made n vs ws v b k =
     next_of n ws long ∙ ap (λ (x : Value). x ∷ reverse (take n ws)) same
 
 one_made : (n : ℕ) (vs : List Value) (v : Value) (o : Outcome (List Value)) → n < length vs → Keeps n (set vs n v) o
-    → and_then (and_then o (λ ws. done (reverse (take n ws)))) (λ ys. done (v ∷ ys)) ≡ and_then o (λ ws. done (reverse (take (suc n) ws)))
+    → and_then (and_then o (λ ws. pure (reverse (take n ws)))) (λ ys. pure (v ∷ ys)) ≡ and_then o (λ ws. pure (reverse (take (suc n) ws)))
 one_made n vs v (Stopped w why) b k = refl
 one_made n vs v (Went w ws) b k = ap (λ (xs : List Value). Went w xs) (sym (first_made n vs ws v b k))
 
 made_then : (f : Value → Run Value) (n : ℕ) (vs : List Value) (o : Outcome Value) → n < length vs
-    → ((w : World) (v : Value) → each_of f (reverse (take n (set vs n v))) w ≡ and_then (turned_at f n (set vs n v) w) (λ ws. done (reverse (take n ws))))
-    → and_then o (λ v. each_of f (reverse (take n vs)) >>= λ ys. done (v ∷ ys)) ≡ and_then (and_then o (λ v. turned_at f n (set vs n v))) (λ ws. done (reverse (take (suc n) ws)))
+    → ((w : World) (v : Value) → each_of f (reverse (take n (set vs n v))) w ≡ and_then (turned_at f n (set vs n v) w) (λ ws. pure (reverse (take n ws))))
+    → and_then o (λ v. each_of f (reverse (take n vs)) >>= λ ys. pure (v ∷ ys)) ≡ and_then (and_then o (λ v. turned_at f n (set vs n v))) (λ ws. pure (reverse (take (suc n) ws)))
 made_then f n vs (Stopped w why) b h = refl
 made_then f n vs (Went w v) b h =
-    ap (λ (xs : List Value). and_then (each_of f (reverse xs) w) (λ ys. done (v ∷ ys))) (sym (take-set vs n v))
-    ∙ ap (λ (o : Outcome (List Value)). and_then o (λ ys. done (v ∷ ys))) (h w v)
+    ap (λ (xs : List Value). and_then (each_of f (reverse xs) w) (λ ys. pure (v ∷ ys))) (sym (take-set vs n v))
+    ∙ ap (λ (o : Outcome (List Value)). and_then o (λ ys. pure (v ∷ ys))) (h w v)
     ∙ one_made n vs v (turned_at f n (set vs n v) w) b (turned_keeps f n (set vs n v) w)
 
 -- each of the arguments, which stand on top of a stack
-pub each_turned : (f : Value → Run Value) (n : ℕ) (vs : List Value) (w : World) → n ≤ length vs → each_of f (reverse (take n vs)) w ≡ and_then (turned_at f n vs w) (λ ws. done (reverse (take n ws)))
+pub each_turned : (f : Value → Run Value) (n : ℕ) (vs : List Value) (w : World) → n ≤ length vs → each_of f (reverse (take n vs)) w ≡ and_then (turned_at f n vs w) (λ ws. pure (reverse (take n ws)))
 each_turned f zero vs w b = refl
 each_turned f (suc n) vs w b =
     let lt : n < length vs = omega (arith, b) in

@@ -8,7 +8,7 @@ use Rattle.abc_file_types.specs.declared.methods.Method.{Method}
 use Rattle.abc_meaning.specs.Setting.{Setting}
 
 -- there is room for the first locals of each method: a receiver, the parameters and an array
-pub record HasRoomFor (methods : List Method) (limit : ℕ) : Type 0 where
+pub record HasRoomForLocals (methods : List Method) (limit : ℕ) : Type 0 where
   pub each : (n : ℕ) (m : Method) → slice_get methods n ≡ Some m → length m.params + 2 ≤ limit
 
 -- the first state of the meaning, which no limit is too small for
@@ -18,4 +18,4 @@ pub record IsBegun (p : Setting) (limits : Limits) (s : State) : Type 0 where
   pub started : s.started ≡ (first_world p limits).started
   pub frames : s.frames ≡ no_frames limits.frames limits.stack
   pub given : s.given.items ≡ []
-  pub room : HasRoomFor p.linked.file.methods s.given.limit
+  pub room : HasRoomForLocals p.linked.file.methods s.given.limit

@@ -16,19 +16,19 @@ use Rattle.abc_run_state.specs.declared.state.Stop.TheVariants as stops
 use Rattle.abc_run_finish.specs.declared.ended.Ended.{Ended}
 use Rattle.abc_run_finish.specs.declared.ended.Ended.TheVariants as ended
 
-abbrev pub end_of : Ended → End
-end_of (ended.Uncaught thrown) = Uncaught thrown
-end_of (ended.Profile method index fault) = Profile method index fault
-end_of (ended.Full limit) = Full limit
+abbrev pub end_of_run : Ended → End
+end_of_run (ended.Uncaught thrown) = Uncaught thrown
+end_of_run (ended.Profile method index fault) = Profile method index fault
+end_of_run (ended.Full limit) = Full limit
 
 -- what a step leaves, by what code answers: it goes on with these frames, or the run ended
 abbrev pub stepped_by : Result Unit Ended → World → Frames → Stepped
 stepped_by (Ok u) w q = goes_on w q.living
-stepped_by (Err e) w q = Ends w (end_of e)
+stepped_by (Err e) w q = Ends w (end_of_run e)
 
 -- no test failed
-abbrev pub IsFree : Stepped → Type 0
-IsFree s = (w : World) → s ≢ Ends w Stuck
+abbrev pub IsUnstuck : Stepped → Type 0
+IsUnstuck s = (w : World) → s ≢ Ends w Stuck
 
 -- the frames may keep what their routines say, and within the limits
 pub record IsSized (p : Setting) (limits : Limits) (q : Frames) : Type 0 where
@@ -44,8 +44,8 @@ IsThrowable l h (stops.Faults fault) = Unit {0}
 IsThrowable l h (stops.Fills limit) = Unit {0}
 
 -- a limit is reached
-abbrev pub IsFull : Stop → Type 0
-IsFull (stops.Fills limit) = Unit {0}
-IsFull (stops.Throws v) = ⊥
-IsFull (stops.Errs c) = ⊥
-IsFull (stops.Faults fault) = ⊥
+abbrev pub IsLimitReached : Stop → Type 0
+IsLimitReached (stops.Fills limit) = Unit {0}
+IsLimitReached (stops.Throws v) = ⊥
+IsLimitReached (stops.Errs c) = ⊥
+IsLimitReached (stops.Faults fault) = ⊥

@@ -10,7 +10,7 @@ use Rattle.abc_link_names.specs.Owners.{body_of}
 use Rattle.abc_link_names.specs.Types.{type_of}
 use Rattle.abc_link_names.specs.declared.types.Ty.{Ty}
 use Rattle.abc_file_types.specs.declared.code.Handler.{Handler}
-use Rattle.abc_meaning.specs.Types.{is_of}
+use Rattle.abc_meaning.specs.Types.{is_of_type}
 
 -- a value that is thrown in a file
 pub record Held : Type 0 where
@@ -18,21 +18,21 @@ pub record Held : Type 0 where
   pub heap : Heap
   pub value : Value
 
-abbrev pub is_caught_as : LinkedFile → Heap → Value → Option Ty → Bool
-is_caught_as l h v None = false
-is_caught_as l h v (Some t) = is_of l h t v
+abbrev pub is_caught_by : LinkedFile → Heap → Value → Option Ty → Bool
+is_caught_by l h v None = false
+is_caught_by l h v (Some t) = is_of_type l h t v
 
-abbrev pub catches : LinkedFile → Heap → Value → (place : ℕ) → Handler → Bool
-catches l h v i handler = nat_le handler.from i && nat_lt i handler.to && is_caught_as l h v (type_of l handler.exc_type)
+abbrev pub handler_catches : LinkedFile → Heap → Value → (place : ℕ) → Handler → Bool
+handler_catches l h v i handler = nat_le handler.from i && nat_lt i handler.to && is_caught_by l h v (type_of l handler.exc_type)
 
-abbrev pub target_of : Option Handler → Option ℕ
-target_of None = None
-target_of (Some h) = Some h.target
+abbrev pub target_of_handler : Option Handler → Option ℕ
+target_of_handler None = None
+target_of_handler (Some h) = Some h.target
 
-abbrev pub handlers_in : LinkedFile → Option ℕ → List Handler
-handlers_in l None = []
-handlers_in l (Some b) = (body_at l.file b).handlers
+abbrev pub handlers_of_body : LinkedFile → Option ℕ → List Handler
+handlers_of_body l None = []
+handlers_of_body l (Some b) = (body_at l.file b).handlers
 
 -- the first handler that catches it
-abbrev pub target_for : LinkedFile → Heap → Value → (method place : ℕ) → Option ℕ
-target_for l h v n i = target_of (find (catches l h v i) (handlers_in l (body_of l.file n)))
+abbrev pub target_for_value : LinkedFile → Heap → Value → (method place : ℕ) → Option ℕ
+target_for_value l h v n i = target_of_handler (find (handler_catches l h v i) (handlers_of_body l (body_of l.file n)))

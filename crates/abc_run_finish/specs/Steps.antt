@@ -5,18 +5,18 @@ use Rattle.std.specs.declared.option.Option.{Option}
 use Rattle.std.specs.declared.result.Result.{Result}
 use Rattle.abc_base.specs.Faults.{Rose}
 use Rattle.abc_base.specs.Sinks.{GrowsByFront}
-use Rattle.abc_run_finish.specs.Ending.{IsSized, end_of}
+use Rattle.abc_run_finish.specs.Ending.{IsSized, end_of_run}
 use Rattle.abc_run_finish.specs.declared.ended.Ended.{Ended}
-use Rattle.abc_run_calls.specs.Arguments.{IsKnown}
-use Rattle.abc_meaning.specs.ThrowLaws.{IsVerified}
+use Rattle.abc_run_calls.specs.Arguments.{HasArgumentRoom}
+use Rattle.abc_meaning.specs.ThrowLaws.{IsVerifiedSetting}
 use Rattle.abc_meaning.specs.Sound.{AreTypings, IsSound, Typings}
 use Rattle.abc_meaning.specs.Step.{gives_back, step_of}
 use Rattle.abc_meaning.specs.Throwing.{Done, End, Ends, Machine, Stepped, Steps, goes_on, stops}
 use Rattle.abc_run_finish.specs.Outward.{adding}
 use Rattle.abc_link_names.specs.Linked.{LinkedFile}
 use Rattle.abc_frames.specs.Frame.{under}
-use Rattle.abc_run_state.specs.Outer.{Outer, setting, world}
-use Rattle.abc_run_state.specs.Turns.{GoesOn, Gives, Halts, Turned, answered}
+use Rattle.abc_run_state.specs.Outer.{Outer, setting_in, world}
+use Rattle.abc_run_state.specs.Turns.{GoesOn, Gives, Halts, Turned, turn_of_answer}
 use Rattle.abc_meaning.specs.Setting.{Setting}
 use Rattle.abc_run_state.specs.declared.state.Left.{Left}
 use Rattle.abc_run_state.specs.declared.state.State.{State}
@@ -24,10 +24,10 @@ use Rattle.abc_run_state.specs.declared.state.Stop.{Stop}
 use Rattle.abc_run_finish.specs.declared.halts.Halt.{Halt}
 use Rattle.abc_run_finish.specs.declared.halts.Halt.TheVariants as halts
 
-abbrev pub stepped : Setting → Turned → Stepped
-stepped p (GoesOn w q) = goes_on w q.living
-stepped p (Gives w q v) = gives_back p w v (under q.living)
-stepped p (Halts w q why) = stops p w q.living why
+abbrev pub step_of_turn : Setting → Turned → Stepped
+step_of_turn p (GoesOn w q) = goes_on w q.living
+step_of_turn p (Gives w q v) = gives_back p w v (under q.living)
+step_of_turn p (Halts w q why) = stops p w q.living why
 
 -- a state of the machine, as the meaning sees it
 abbrev pub machine : State → Outer → Machine
@@ -37,15 +37,15 @@ machine s out = record { world = world s out; frames = s.frames.living }
 
 -- a state that a run reaches: it is sound, its frames may keep what their routines say, and there is room for first locals
 pub record IsReached (l : LinkedFile) (out : Outer) (s : State) : Type 0 where
-  pub verified : IsVerified (setting l out)
+  pub verified : IsVerifiedSetting (setting_in l out)
   pub typings : Typings
-  pub typed : AreTypings (setting l out) typings
-  pub sound : IsSound (setting l out) typings (machine s out)
-  pub sized : IsSized (setting l out) s.arena.limits s.frames
-  pub known : IsKnown l s.given.limit
+  pub typed : AreTypings (setting_in l out) typings
+  pub sound : IsSound (setting_in l out) typings (machine s out)
+  pub sized : IsSized (setting_in l out) s.arena.limits s.frames
+  pub known : HasArgumentRoom l s.given.limit
 
 abbrev pub step_here : LinkedFile → Outer → State → Stepped
-step_here l out s = step_of (setting l out) (world s out) s.frames.living
+step_here l out s = step_of (setting_in l out) (world s out) s.frames.living
 
 -- a step of the meaning goes on, having written some bytes
 pub record GoesOnIn (r : Stepped) (out : Outer) (new : State) (before now : Option (List ℕ)) : Type 0 where
@@ -71,7 +71,7 @@ pub record FailsIn (r : Stepped) (out : Outer) (new : State) (before now : Optio
 abbrev pub StepsIn : Stepped → Outer → Result Unit Halt → (new : State) → (before now : Option (List ℕ)) → Type 0
 StepsIn r out (Ok u) new before now = GoesOnIn r out new before now
 StepsIn r out (Err (halts.Returns v)) new before now = EndsIn r out new Done before now
-StepsIn r out (Err (halts.Ends e)) new before now = EndsIn r out new (end_of e) before now
+StepsIn r out (Err (halts.Ends e)) new before now = EndsIn r out new (end_of_run e) before now
 StepsIn r out (Err halts.Fails) new before now = FailsIn r out new before now
 
 -- the step of a state
@@ -98,7 +98,7 @@ pub record LeavesStep (p : Setting) (r : Result Unit Halt) (old new : State) (be
 
 -- what an instruction left to be done, in the words of the meaning
 abbrev pub left_here : LinkedFile → Outer → State → Result Left Stop → Stepped
-left_here l out s left = stepped (setting l out) (answered (setting l out) left (world s out) s.frames)
+left_here l out s left = step_of_turn (setting_in l out) (turn_of_answer (setting_in l out) left (world s out) s.frames)
 
 -- an end of the file's run ends the machine's
 abbrev pub halted_as : Result Unit Ended → Result Unit Halt

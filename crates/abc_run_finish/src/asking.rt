@@ -1,14 +1,14 @@
 ghost use Rattle.std.specs.Prelude.{◌≡◌, ◌<◌, ◌≤◌, All, get_or, length, map};
-ghost use Rattle.abc_base.specs.Hosts.{arguments};
+ghost use Rattle.abc_base.specs.Hosts.{plain_arguments};
 ghost use Rattle.abc_base.specs.Ranges.{IsNumber};
 ghost use Rattle.abc_heap_values.specs.declared.values.Value.TheVariants.{Undefined};
 ghost use Rattle.abc_objects.specs.Values.{Exists};
-ghost use Rattle.abc_frames.specs.Ready.{IsReady};
-ghost use Rattle.abc_run_state.specs.Outer.{Outer, setting, world};
-ghost use Rattle.abc_run_state.specs.Settling.{given_by, taken_by};
+ghost use Rattle.abc_frames.specs.Ready.{HasFrameRoom};
+ghost use Rattle.abc_run_state.specs.Outer.{Outer, setting_in, world};
+ghost use Rattle.abc_run_state.specs.Settling.{given_by_how, taken_by};
 ghost use Rattle.abc_run_state.specs.Standing.{IsSet};
-ghost use Rattle.abc_run_state.specs.Turns.{asked, went};
-ghost use Rattle.abc_meaning.specs.Calling.{number_in};
+ghost use Rattle.abc_run_state.specs.Turns.{turn_of_formula, went};
+ghost use Rattle.abc_meaning.specs.Calling.{number_of_argument};
 
 use crate::outward_arguments::convert_arguments;
 use abc_base::{Fault, Host, HostClass, Plain};
@@ -20,7 +20,7 @@ use abc_run_state::{How, State, Stop, settle};
 /// The number that a value of some is, and 0 where it is none or there is no such value.
 fn number_at(linked: &Linked, arena: &Arena, values: &[Value], n: usize) -> i64
     requires { All (Exists linked.now arena.now) values.now }
-    ensures is { result ≡ number_in (get_or values.now n Undefined) }
+    ensures is { result ≡ number_of_argument (get_or values.now n Undefined) }
     ensures number { IsNumber result }
 {
     match values.get(n) {
@@ -34,7 +34,7 @@ fn numbers_of(linked: &Linked, arena: &Arena, values: &[Value]) -> Plain
     requires few { length values.now ≤ 4 }
     requires there { All (Exists linked.now arena.now) values.now }
     ensures count { result.count ≡ length values.now }
-    ensures numbers { arguments result ≡ map number_in values.now }
+    ensures numbers { plain_arguments result ≡ map number_of_argument values.now }
 {
     Plain {
         count: values.len() as u32,
@@ -57,11 +57,12 @@ pub fn ask<H: Host>(
 ) -> Result<(), Stop>
     ghost out: { Outer }
     requires set { IsSet linked.now s.old }
-    requires ready { IsReady (taken_by how) (given_by how) s.old.frames }
+    requires ready { HasFrameRoom (taken_by how) (given_by_how how) s.old.frames }
     requires count { count ≤ taken_by how }
     requires host { out.formulas ≡ H.formulas host.now }
     requires formula { formula < length (H.formulas host.now) }
-    ensures asks { asked (setting linked.now out) formula count how (world s.old out) s.old.frames ≡ went result (world s.new out) s.new.frames }
+    ensures asks { turn_of_formula (setting_in linked.now out) formula count how (world s.old out)
+        s.old.frames ≡ went result (world s.new out) s.new.frames }
     ensures limit { s.new.given.limit ≡ s.old.given.limit }
 {
     if count != host.params(formula) {

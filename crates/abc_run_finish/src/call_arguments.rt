@@ -1,13 +1,13 @@
 ghost use Rattle.std.specs.Prelude.{◌≡◌, ◌+◌, ◌<◌, ◌≤◌, ◌^◌, ◌∷◌, true, length, drop, IfOk, OnOk};
-ghost use Rattle.abc_run_calls.specs.Arguments.{HasOptions, IsKnown, Makes, coerces_first, first_of, makes_arguments, receiver, with_values};
+ghost use Rattle.abc_run_calls.specs.Arguments.{HasOptions, HasArgumentRoom, Makes, coerces_first, first_or_option, makes_arguments, first_receiver, with_values};
 ghost use Rattle.abc_heap_store.specs.Heap.{Heap};
-ghost use Rattle.abc_meaning.specs.Entering.{coerced};
-ghost use Rattle.abc_run_state.specs.Outer.{Outer, setting, world};
-ghost use Rattle.abc_meaning.specs.Setting.{may_take as may_take_so, options_of};
+ghost use Rattle.abc_meaning.specs.Entering.{coerced_arguments};
+ghost use Rattle.abc_run_state.specs.Outer.{Outer, setting_in, world};
+ghost use Rattle.abc_meaning.specs.Setting.{may_take_arguments as may_take_so, options_of};
 ghost use Rattle.abc_run_state.specs.Standing.{Stays};
-ghost use Rattle.abc_run_state.specs.Stops.{IsOpen, answer};
+ghost use Rattle.abc_run_state.specs.Stops.{IsOpen, part_outcome};
 ghost use Rattle.abc_meaning.specs.World.{World};
-ghost use Rattle.abc_objects.specs.Stands.{Each, StandsOver};
+ghost use Rattle.abc_objects.specs.Stands.{EachAt, StandsOver};
 ghost use Rattle.abc_objects.specs.Values.{Exists};
 
 use abc_base::HostClass;
@@ -22,8 +22,11 @@ fn argument(linked: &Linked, method: &Method, args: &[Value], k: usize) -> Resul
     requires takes { may_take_so method.now (length args.now) ≡ true }
     requires parameter { k < length method.now.params }
     requires options { HasOptions linked.now method.now }
-    ensures part { (out : Outer) (w : World) → first_of (setting linked.now out) (drop k (options_of method.now)) (drop k args.now) w ≡ answer result w }
-    ensures there { (h : Heap) → StandsOver linked.now h → Each (Exists linked.now h) args.now → IfOk result (Exists linked.now h) }
+    ensures part { (out : Outer) (w : World)
+        → first_or_option (setting_in linked.now out) (drop k (options_of method.now)) (drop k args.now) w
+        ≡ part_outcome result w }
+    ensures there { (h : Heap) → StandsOver linked.now h → EachAt (Exists linked.now h) args.now
+        → IfOk result (Exists linked.now h) }
 {
     if k < args.len() {
         return Ok(args[k]);
@@ -46,12 +49,14 @@ fn coerce_argument(
 ) -> Result<Value, Stop>
     ghost out: { Outer }
     requires over { StandsOver linked.now s.old.arena }
-    requires there { Each (Exists linked.now s.old.arena) args.now }
+    requires there { EachAt (Exists linked.now s.old.arena) args.now }
     requires takes { may_take_so method.now (length args.now) ≡ true }
     requires parameter { k < length method.now.params }
     requires options { HasOptions linked.now method.now }
-    requires free { IsOpen (coerces_first (setting linked.now out) ty (drop k (options_of method.now)) (drop k args.now) (world s.old out)) }
-    ensures part { coerces_first (setting linked.now out) ty (drop k (options_of method.now)) (drop k args.now) (world s.old out) ≡ answer result (world s.new out) }
+    requires free { IsOpen (coerces_first (setting_in linked.now out) ty (drop k (options_of method.now))
+        (drop k args.now) (world s.old out)) }
+    ensures part { coerces_first (setting_in linked.now out) ty (drop k (options_of method.now))
+        (drop k args.now) (world s.old out) ≡ part_outcome result (world s.new out) }
     ensures stays { Stays linked.now s.old s.new }
 {
     let v = argument(linked, method, args, k)?;
@@ -70,15 +75,19 @@ fn coerce_arguments(
 ) -> Result<(), Stop>
     ghost out: { Outer }
     requires over { StandsOver linked.now s.old.arena }
-    requires there { Each (Exists linked.now s.old.arena) args.now }
+    requires there { EachAt (Exists linked.now s.old.arena) args.now }
     requires takes { may_take_so method.now (length args.now) ≡ true }
     requires options { HasOptions linked.now method.now }
     requires room { length method.now.params + 2 ≤ s.old.given.limit }
     requires alone { length s.old.given.items ≡ 1 }
-    requires free { IsOpen (coerced (setting linked.now out) method.now.params (options_of method.now) args.now (world s.old out)) }
-    ensures part { coerced (setting linked.now out) method.now.params (options_of method.now) args.now (world s.old out) ≡ answer (with_values result (drop 1 s.new.given.items)) (world s.new out) }
+    requires free { IsOpen (coerced_arguments (setting_in linked.now out) method.now.params
+        (options_of method.now) args.now (world s.old out)) }
+    ensures part { coerced_arguments (setting_in linked.now out) method.now.params (options_of method.now)
+        args.now (world s.old out)
+        ≡ part_outcome (with_values result (drop 1 s.new.given.items)) (world s.new out) }
     ensures makes { Makes linked.now s.old s.new }
-    ensures given { OnOk result ((receiver s.new.given.items ≡ receiver s.old.given.items) × (length s.new.given.items ≡ length method.now.params + 1)) }
+    ensures given { OnOk result ((first_receiver s.new.given.items ≡ first_receiver s.old.given.items)
+        × (length s.new.given.items ≡ length method.now.params + 1)) }
 {
     let types = method.params.as_slice();
     for (k, ty) in types.iter().enumerate() {
@@ -98,13 +107,15 @@ pub(crate) fn prepare(
 ) -> Result<(), Stop>
     ghost out: { Outer }
     requires over { StandsOver linked.now s.old.arena }
-    requires there { Each (Exists linked.now s.old.arena) args.now }
+    requires there { EachAt (Exists linked.now s.old.arena) args.now }
     requires few { length args.now < 2 ^ 32 }
-    requires known { IsKnown linked.now s.old.given.limit }
-    requires free { IsOpen (makes_arguments (setting linked.now out) method args.now (world s.old out)) }
-    ensures part { makes_arguments (setting linked.now out) method args.now (world s.old out) ≡ answer (with_values result (drop 1 s.new.given.items)) (world s.new out) }
+    requires known { HasArgumentRoom linked.now s.old.given.limit }
+    requires free { IsOpen (makes_arguments (setting_in linked.now out) method args.now (world s.old out)) }
+    ensures part { makes_arguments (setting_in linked.now out) method args.now (world s.old out)
+        ≡ part_outcome (with_values result (drop 1 s.new.given.items)) (world s.new out) }
     ensures makes { Makes linked.now s.old s.new }
-    ensures given { OnOk result ((s.new.given.items ≡ this ∷ drop 1 s.new.given.items) × (length s.new.given.items < s.new.given.limit)) }
+    ensures given { OnOk result ((s.new.given.items ≡ this ∷ drop 1 s.new.given.items)
+        × (length s.new.given.items < s.new.given.limit)) }
 {
     let signature = method_at(linked, method);
     if !may_take(signature, args.len() as u32) {

@@ -1,14 +1,14 @@
 ghost use Rattle.std.specs.Prelude.{◌≡◌, ◌<◌, ◌^◌, [], ◌∷◌, length, take};
-ghost use Rattle.abc_base.specs.Hosts.{arguments};
-ghost use Rattle.abc_run_finish.specs.Calling.{CanBegin, enters_last};
+ghost use Rattle.abc_base.specs.Hosts.{plain_arguments};
+ghost use Rattle.abc_run_finish.specs.Calling.{CanBeginCall, enters_last};
 ghost use Rattle.abc_meaning.specs.Calls.{begins_call, numbers, stops_call};
-ghost use Rattle.abc_run_finish.specs.Ending.{IsFree, IsSized, IsThrowable, stepped_by};
-ghost use Rattle.abc_run_calls.specs.Arguments.{IsKnown};
+ghost use Rattle.abc_run_finish.specs.Ending.{IsUnstuck, IsSized, IsThrowable, stepped_by};
+ghost use Rattle.abc_run_calls.specs.Arguments.{HasArgumentRoom};
 ghost use Rattle.abc_run_finish.specs.Starting.{begins, went_alone};
 ghost use Rattle.abc_meaning.specs.Throwing.{last_script};
-ghost use Rattle.abc_objects.specs.Stands.{Each, StandsOver};
+ghost use Rattle.abc_objects.specs.Stands.{EachAt, StandsOver};
 ghost use Rattle.abc_objects.specs.Values.{Exists};
-ghost use Rattle.abc_run_state.specs.Outer.{Outer, setting, world};
+ghost use Rattle.abc_run_state.specs.Outer.{Outer, setting_in, world};
 ghost use Rattle.abc_run_state.specs.Stops.{IsOpen, why};
 ghost use Rattle.abc_meaning.specs.Entering.{global};
 
@@ -27,7 +27,7 @@ fn last_global(linked: &Linked, s: &State) -> Value
     requires over { StandsOver linked.now s.now.arena }
     requires scripts { 0 < length linked.now.file.scripts }
     requires few { length linked.now.file.scripts < 2 ^ 32 }
-    ensures { (out : Outer) → result ≡ global (last_script (setting linked.now out)) (world s.now out) }
+    ensures { (out : Outer) → result ≡ global (last_script (setting_in linked.now out)) (world s.now out) }
 {
     let scripts = linked.abc().scripts.len();
     global_of(linked, s, scripts as u32 - 1)
@@ -37,14 +37,16 @@ fn last_global(linked: &Linked, s: &State) -> Value
 fn enter_alone(linked: &Linked, s: &mut State, method: u32, args: &[Value]) -> Result<(), Stop>
     ghost out: { Outer }
     requires over { StandsOver linked.now s.old.arena }
-    requires there { Each (Exists linked.now s.old.arena) args.now }
+    requires there { EachAt (Exists linked.now s.old.arena) args.now }
     requires short { length args.now < 2 ^ 32 }
     requires none { s.old.frames.living ≡ [] }
-    requires known { IsKnown linked.now s.old.given.limit }
+    requires known { HasArgumentRoom linked.now s.old.given.limit }
     requires scripts { 0 < length linked.now.file.scripts }
     requires few { length linked.now.file.scripts < 2 ^ 32 }
-    requires free { IsOpen (enters_last (setting linked.now out) method args.now (world s.old out)) }
-    ensures begins { begins (setting linked.now out) s.old.frames (enters_last (setting linked.now out) method args.now (world s.old out)) ≡ went_alone result (world s.new out) s.new.frames }
+    requires free { IsOpen (enters_last (setting_in linked.now out) method args.now (world s.old out)) }
+    ensures begins { begins (setting_in linked.now out) s.old.frames
+        (enters_last (setting_in linked.now out) method args.now (world s.old out))
+        ≡ went_alone result (world s.new out) s.new.frames }
     ensures limit { s.new.given.limit ≡ s.old.given.limit }
 {
     let this = last_global(linked, s);
@@ -79,10 +81,11 @@ fn call_stopped(linked: &Linked, s: &mut State, method: u32, stop: Stop) -> Resu
     requires scripts { 0 < length linked.now.file.scripts }
     requires none { s.old.frames.living ≡ [] }
     requires value { IsThrowable linked.now s.old.arena stop }
-    requires sized { IsSized (setting linked.now out) s.old.arena.limits s.old.frames }
-    requires free { IsFree (stops_call (setting linked.now out) method (world s.old out) (why stop)) }
-    ensures step { stops_call (setting linked.now out) method (world s.old out) (why stop) ≡ stepped_by result (world s.new out) s.new.frames }
-    ensures sized { IsSized (setting linked.now out) s.new.arena.limits s.new.frames }
+    requires sized { IsSized (setting_in linked.now out) s.old.arena.limits s.old.frames }
+    requires free { IsUnstuck (stops_call (setting_in linked.now out) method (world s.old out) (why stop)) }
+    ensures step { stops_call (setting_in linked.now out) method (world s.old out) (why stop)
+        ≡ stepped_by result (world s.new out) s.new.frames }
+    ensures sized { IsSized (setting_in linked.now out) s.new.arena.limits s.new.frames }
     ensures limit { s.new.given.limit ≡ s.old.given.limit }
 {
     match stop {
@@ -101,9 +104,10 @@ fn call_stopped(linked: &Linked, s: &mut State, method: u32, stop: Stop) -> Resu
 /// options stand for them; nothing catches an error that is thrown, and a fault is at the method's first instruction.
 pub fn begin_call(linked: &Linked, s: &mut State, method: u32, args: &Plain) -> Result<(), Ended>
     ghost out: { Outer }
-    requires { CanBegin linked.now out method (arguments args.now) s.old }
-    ensures step { begins_call (setting linked.now out) (world s.old out) method (arguments args.now) ≡ stepped_by result (world s.new out) s.new.frames }
-    ensures sized { IsSized (setting linked.now out) s.new.arena.limits s.new.frames }
+    requires { CanBeginCall linked.now out method (plain_arguments args.now) s.old }
+    ensures step { begins_call (setting_in linked.now out) (world s.old out) method (plain_arguments args.now)
+        ≡ stepped_by result (world s.new out) s.new.frames }
+    ensures sized { IsSized (setting_in linked.now out) s.new.arena.limits s.new.frames }
     ensures limit { s.new.given.limit ≡ s.old.given.limit }
 {
     let values = four_values(args);

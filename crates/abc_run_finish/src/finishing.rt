@@ -2,11 +2,11 @@ ghost use Rattle.std.specs.Prelude.{◌≡◌, ◌≢◌, ◌<◌, Err, Ok, leng
 ghost use Rattle.abc_run_calls.specs.Calls.{CanFinish, Finishes};
 ghost use Rattle.abc_heap_values.specs.declared.values.Value.{Value};
 ghost use Rattle.abc_run_finish.specs.Ending.{IsSized, stepped_by};
-ghost use Rattle.abc_run_calls.specs.Arguments.{IsKnown};
-ghost use Rattle.abc_run_state.specs.Outer.{Outer, setting, world};
-ghost use Rattle.abc_run_state.specs.Turns.{answered, asked, traced};
+ghost use Rattle.abc_run_calls.specs.Arguments.{HasArgumentRoom};
+ghost use Rattle.abc_run_state.specs.Outer.{Outer, setting_in, world};
+ghost use Rattle.abc_run_state.specs.Turns.{turn_of_answer, turn_of_formula, turn_of_trace};
 ghost use Rattle.abc_run_finish.specs.Fairly.{IsFairTurn};
-ghost use Rattle.abc_run_finish.specs.Steps.{LeavesStep, StepsIn, left_here, stepped};
+ghost use Rattle.abc_run_finish.specs.Steps.{LeavesStep, StepsIn, left_here, step_of_turn};
 ghost use Rattle.abc_run_finish.specs.declared.halts.Halt.TheVariants.{Returns};
 
 use crate::asking::ask;
@@ -31,10 +31,14 @@ fn write<K: Sink>(
     ghost out: { Outer }
     requires scripts { 0 < length linked.now.file.scripts }
     requires finishes { Finishes linked.now count how s.old }
-    requires fair { IsFairTurn (setting linked.now out) (traced (setting linked.now out) count how (world s.old out) s.old.frames) }
-    ensures step { StepsIn (stepped (setting linked.now out) (traced (setting linked.now out) count how (world s.old out) s.old.frames)) out result s.new (K.written sink.old) (K.written sink.new) }
+    requires fair { IsFairTurn (setting_in linked.now out)
+        (turn_of_trace (setting_in linked.now out) count how (world s.old out) s.old.frames) }
+    ensures step { StepsIn (step_of_turn (setting_in linked.now out)
+        (turn_of_trace (setting_in linked.now out) count how (world s.old out) s.old.frames)) out result
+        s.new (K.written sink.old) (K.written sink.new) }
     ensures none { (v : Value) → result ≢ Err (Returns v) }
-    ensures leaves { LeavesStep (setting linked.now out) result s.old s.new (K.faults sink.old) (K.faults sink.new) }
+    ensures leaves { LeavesStep (setting_in linked.now out) result s.old s.new (K.faults sink.old)
+        (K.faults sink.new) }
 {
     match trace(linked, s, sink, count, how) {
         Ok(()) => Ok(()),
@@ -56,9 +60,12 @@ fn consult<H: Host>(
     requires scripts { 0 < length linked.now.file.scripts }
     requires host { out.formulas ≡ H.formulas host.now }
     requires finishes { Finishes linked.now count how s.old }
-    requires fair { IsFairTurn (setting linked.now out) (asked (setting linked.now out) formula count how (world s.old out) s.old.frames) }
-    ensures step { stepped (setting linked.now out) (asked (setting linked.now out) formula count how (world s.old out) s.old.frames) ≡ stepped_by result (world s.new out) s.new.frames }
-    ensures sized { IsSized (setting linked.now out) s.new.arena.limits s.new.frames }
+    requires fair { IsFairTurn (setting_in linked.now out)
+        (turn_of_formula (setting_in linked.now out) formula count how (world s.old out) s.old.frames) }
+    ensures step { step_of_turn (setting_in linked.now out)
+        (turn_of_formula (setting_in linked.now out) formula count how (world s.old out) s.old.frames)
+        ≡ stepped_by result (world s.new out) s.new.frames }
+    ensures sized { IsSized (setting_in linked.now out) s.new.arena.limits s.new.frames }
     ensures limit { s.new.given.limit ≡ s.old.given.limit }
 {
     match ask(linked, s, host, formula, count, how) {
@@ -79,14 +86,17 @@ pub fn finish<K: Sink, H: Host>(
     left: Result<Left, Stop>,
 ) -> Result<(), Halt>
     ghost out: { Outer }
-    requires known { IsKnown linked.now s.old.given.limit }
+    requires known { HasArgumentRoom linked.now s.old.given.limit }
     requires scripts { 0 < length linked.now.file.scripts }
     requires host { out.formulas ≡ H.formulas host.now }
     requires left { CanFinish linked.now left s.old }
-    requires fair { IsFairTurn (setting linked.now out) (answered (setting linked.now out) left (world s.old out) s.old.frames) }
-    ensures step { StepsIn (left_here linked.now out s.old left) out result s.new (K.written sink.old) (K.written sink.new) }
+    requires fair { IsFairTurn (setting_in linked.now out)
+        (turn_of_answer (setting_in linked.now out) left (world s.old out) s.old.frames) }
+    ensures step { StepsIn (left_here linked.now out s.old left) out result s.new (K.written sink.old)
+        (K.written sink.new) }
     ensures value { (v : Value) → result ≡ Err (Returns v) → left ≡ Ok (Left.Returns v) }
-    ensures leaves { LeavesStep (setting linked.now out) result s.old s.new (K.faults sink.old) (K.faults sink.new) }
+    ensures leaves { LeavesStep (setting_in linked.now out) result s.old s.new (K.faults sink.old)
+        (K.faults sink.new) }
 {
     match left {
         Ok(Left::Goes) => Ok(()),

@@ -3,7 +3,7 @@ ghost use Rattle.std.specs.List.{find};
 ghost use Rattle.abc_link_names.specs.PartsByNumber.{body_at};
 ghost use Rattle.abc_objects.specs.Stands.{StandsOver};
 ghost use Rattle.abc_objects.specs.Values.{Exists};
-ghost use Rattle.abc_run_finish.specs.Handling.{catches as catches_so, target_of};
+ghost use Rattle.abc_run_finish.specs.Handling.{handler_catches as catches_so, target_of_handler};
 
 use abc_file_types::Handler;
 use abc_frames::Handlers;
@@ -62,7 +62,9 @@ impl<'a> HandlersFor<'a> {
 
     /// Where the first of some handlers that catches the value goes on.
     fn first(&self, handlers: &[Handler], place: u32) -> Option<u32>
-        ensures { result ≡ target_of (find (catches_so self.now.linked self.now.heap self.now.value place) handlers.now) }
+        ensures { result
+            ≡ target_of_handler
+            (find (catches_so self.now.linked self.now.heap self.now.value place) handlers.now) }
     {
         for handler in handlers {
             if self.catches(*handler, place) {
@@ -85,9 +87,9 @@ fn handlers_of(linked: &Linked, body: u32) -> &[Handler]
 }
 
 impl Handlers for HandlersFor<'_> {
-    ghost use Rattle.abc_run_finish.specs.Handling.{target_for};
+    ghost use Rattle.abc_run_finish.specs.Handling.{target_for_value};
 
-    ghost targets = { λ h. target_for h.linked h.heap h.value };
+    ghost targets = { λ h. target_for_value h.linked h.heap h.value };
 
     fn target(&self, method: u32, place: u32) -> Option<u32> {
         match self.linked.body_of(method) {

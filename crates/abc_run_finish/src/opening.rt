@@ -1,7 +1,7 @@
 ghost use Rattle.std.specs.Prelude.{◌≡◌, ◌+◌, [], IfOk, MatchResult, false, length, replicate};
 ghost use Rattle.abc_frames.specs.Frame.{no_frames};
-ghost use Rattle.abc_run_finish.specs.Begun.{HasRoomFor, IsBegun};
-ghost use Rattle.abc_meaning.specs.Openings.{IsRefused, setting};
+ghost use Rattle.abc_run_finish.specs.Begun.{HasRoomForLocals, IsBegun};
+ghost use Rattle.abc_meaning.specs.Openings.{IsOpeningRefused, setting};
 
 use abc_base::{Host, NoMemory, Table, release};
 use abc_file_types::Method;
@@ -37,7 +37,7 @@ fn first_locals(method: &Method) -> Result<u32, NoMemory>
 
 /// How many first locals any method has at most.
 fn most_locals(methods: &[Method]) -> Result<u32, NoMemory>
-    ensures { IfOk result (HasRoomFor methods.now) }
+    ensures { IfOk result (HasRoomForLocals methods.now) }
 {
     let mut most = 2;
     for method in methods {
@@ -62,7 +62,7 @@ fn room_of(alloc: Global, linked: &Linked, limits: &Limits) -> Result<Room, NoMe
     ensures frames { IfOk result (λ r. r.frames ≡ no_frames (limits.now).frames (limits.now).stack) }
     ensures started { IfOk result (λ r. r.started ≡ replicate (length (linked.now).file.scripts) false) }
     ensures given { IfOk result (λ r. r.given.items ≡ []) }
-    ensures room { IfOk result (λ r. HasRoomFor (linked.now).file.methods r.given.limit) }
+    ensures room { IfOk result (λ r. HasRoomForLocals (linked.now).file.methods r.given.limit) }
 {
     let frames = Frames::new(alloc, limits.frames, limits.stack)?;
     let started = none_started(alloc, linked.abc().scripts.len())?;
@@ -83,7 +83,8 @@ pub fn open_state<H: Host>(
     limits: &Limits,
     host: &H,
 ) -> Result<State, OpenError>
-    ensures { MatchResult result (IsBegun (setting linked.now (H.formulas host.now)) limits.now) (IsRefused (setting linked.now (H.formulas host.now)) limits.now) }
+    ensures { MatchResult result (IsBegun (setting linked.now (H.formulas host.now)) limits.now)
+        (IsOpeningRefused (setting linked.now (H.formulas host.now)) limits.now) }
 {
     linked.linked_law();
     let arena = Arena::open(alloc, linked, limits, host)?;

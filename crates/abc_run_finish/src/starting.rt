@@ -3,14 +3,14 @@ ghost use Rattle.std.specs.declared.option.Option.{Option};
 ghost use Rattle.abc_heap_values.specs.Filling.{HasRoom};
 ghost use Rattle.abc_heap_values.specs.declared.values.Value.{Value};
 ghost use Rattle.abc_run_finish.specs.Ending.{IsSized, stepped_by};
-ghost use Rattle.abc_run_calls.specs.Arguments.{IsKnown, list_of, listed, receiver};
-ghost use Rattle.abc_run_calls.specs.Entering.{placed};
-ghost use Rattle.abc_objects.specs.Stands.{Each, StandsOver};
+ghost use Rattle.abc_run_calls.specs.Arguments.{HasArgumentRoom, list_of, list_result, first_receiver};
+ghost use Rattle.abc_run_calls.specs.Entering.{place_in_meaning};
+ghost use Rattle.abc_objects.specs.Stands.{EachAt, StandsOver};
 ghost use Rattle.abc_objects.specs.Values.{Exists};
-ghost use Rattle.abc_run_state.specs.Outer.{Outer, setting, world};
+ghost use Rattle.abc_run_state.specs.Outer.{Outer, setting_in, world};
 ghost use Rattle.abc_run_state.specs.Standing.{Stays};
-ghost use Rattle.abc_run_state.specs.Stops.{IsOpen, answer};
-ghost use Rattle.abc_meaning.specs.Entering.{array_of, extra, starts};
+ghost use Rattle.abc_run_state.specs.Stops.{IsOpen, part_outcome};
+ghost use Rattle.abc_meaning.specs.Entering.{array_of, extra, starts_script};
 ghost use Rattle.abc_run_finish.specs.Fairly.{CanStart};
 ghost use Rattle.abc_run_finish.specs.Starting.{begins, frames_alone, went_alone};
 ghost use Rattle.abc_run_finish.specs.Steps.{StepsAs, step_here};
@@ -46,8 +46,10 @@ pub fn method_at(linked: &Linked, method: u32) -> &Method
 /// The array of some arguments.
 fn array_with(linked: &Linked, s: &mut State, args: &[Value]) -> Result<Option<Value>, Stop>
     requires over { StandsOver linked.now s.old.arena }
-    requires there { Each (Exists linked.now s.old.arena) args.now }
-    ensures part { (out : Outer) → array_of (setting linked.now out) args.now (world s.old out) ≡ answer (listed result) (world s.new out) }
+    requires there { EachAt (Exists linked.now s.old.arena) args.now }
+    ensures part { (out : Outer)
+        → array_of (setting_in linked.now out) args.now (world s.old out)
+        ≡ part_outcome (list_result result) (world s.new out) }
     ensures stays { Stays linked.now s.old s.new }
 {
     match s.arena.new_array(linked, args) {
@@ -75,8 +77,10 @@ fn array_for(
     args: &[Value],
 ) -> Result<Option<Value>, Stop>
     requires over { StandsOver linked.now s.old.arena }
-    requires there { Each (Exists linked.now s.old.arena) args.now }
-    ensures part { (out : Outer) → extra (setting linked.now out) method.now args.now (world s.old out) ≡ answer (listed result) (world s.new out) }
+    requires there { EachAt (Exists linked.now s.old.arena) args.now }
+    ensures part { (out : Outer)
+        → extra (setting_in linked.now out) method.now args.now (world s.old out)
+        ≡ part_outcome (list_result result) (world s.new out) }
     ensures stays { Stays linked.now s.old s.new }
 {
     if has_flag(method.flags, REST) {
@@ -109,12 +113,15 @@ pub fn put_alone(
 ) -> Result<(), Stop>
     ghost out: { Outer }
     requires over { StandsOver linked.now s.old.arena }
-    requires there { Each (Exists linked.now s.old.arena) args.now }
+    requires there { EachAt (Exists linked.now s.old.arena) args.now }
     requires none { s.old.frames.living ≡ [] }
     requires given { 0 < length s.old.given.items }
     requires room { length s.old.given.items < s.old.given.limit }
-    requires free { IsOpen (frames_alone (setting linked.now out) method (placed at) (receiver s.old.given.items) (drop 1 s.old.given.items) args.now (world s.old out)) }
-    ensures begins { begins (setting linked.now out) s.old.frames (frames_alone (setting linked.now out) method (placed at) (receiver s.old.given.items) (drop 1 s.old.given.items) args.now (world s.old out)) ≡ went_alone result (world s.new out) s.new.frames }
+    requires free { IsOpen (frames_alone (setting_in linked.now out) method (place_in_meaning at)
+        (first_receiver s.old.given.items) (drop 1 s.old.given.items) args.now (world s.old out)) }
+    ensures begins { begins (setting_in linked.now out) s.old.frames (frames_alone (setting_in linked.now out)
+        method (place_in_meaning at) (first_receiver s.old.given.items) (drop 1 s.old.given.items)
+        args.now (world s.old out)) ≡ went_alone result (world s.new out) s.new.frames }
     ensures limit { s.new.given.limit ≡ s.old.given.limit }
 {
     let array = array_for(linked, s, method_at(linked, method), args)?;
@@ -129,11 +136,13 @@ fn start_alone(linked: &Linked, s: &mut State, script: u32) -> Result<(), Stop>
     ghost out: { Outer }
     requires over { StandsOver linked.now s.old.arena }
     requires none { s.old.frames.living ≡ [] }
-    requires known { IsKnown linked.now s.old.given.limit }
+    requires known { HasArgumentRoom linked.now s.old.given.limit }
     requires script { script < length linked.now.file.scripts }
     requires started { length s.old.started ≡ length linked.now.file.scripts }
-    requires free { IsOpen (starts (setting linked.now out) script (world s.old out)) }
-    ensures begins { begins (setting linked.now out) s.old.frames (starts (setting linked.now out) script (world s.old out)) ≡ went_alone result (world s.new out) s.new.frames }
+    requires free { IsOpen (starts_script (setting_in linked.now out) script (world s.old out)) }
+    ensures begins { begins (setting_in linked.now out) s.old.frames
+        (starts_script (setting_in linked.now out) script (world s.old out))
+        ≡ went_alone result (world s.new out) s.new.frames }
     ensures limit { s.new.given.limit ≡ s.old.given.limit }
 {
     s.started.set(script as usize, true);
@@ -152,7 +161,7 @@ fn start_or_end(linked: &Linked, s: &mut State) -> Result<(), Ended>
     ghost out: { Outer }
     requires { CanStart linked.now out s.old }
     ensures step { step_here linked.now out s.old ≡ stepped_by result (world s.new out) s.new.frames }
-    ensures sized { IsSized (setting linked.now out) s.new.arena.limits s.new.frames }
+    ensures sized { IsSized (setting_in linked.now out) s.new.arena.limits s.new.frames }
     ensures limit { s.new.given.limit ≡ s.old.given.limit }
 {
     let scripts = linked.abc().scripts.len();
@@ -170,7 +179,7 @@ pub fn start_last(linked: &Linked, s: &mut State) -> Result<(), Halt>
     ensures step { (before : Option (List ℕ)) → StepsAs linked.now out s.old result s.new before before }
     ensures ends { result ≢ Err Fails }
     ensures none { (v : Value) → result ≢ Err (Returns v) }
-    ensures sized { IsSized (setting linked.now out) s.new.arena.limits s.new.frames }
+    ensures sized { IsSized (setting_in linked.now out) s.new.arena.limits s.new.frames }
     ensures limit { s.new.given.limit ≡ s.old.given.limit }
 {
     halted(start_or_end(linked, s))

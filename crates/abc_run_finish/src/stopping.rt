@@ -2,10 +2,10 @@ ghost use Rattle.std.specs.Prelude.{◌≡◌, ◌<◌, length, OnOk};
 ghost use Rattle.abc_meaning.specs.Throwing.{fault_at as fault_so, stops, thrown_as as thrown_so, thrown_part as thrown_part_so, unwinds};
 ghost use Rattle.abc_objects.specs.Stands.{StandsOver};
 ghost use Rattle.abc_objects.specs.Values.{Exists};
-ghost use Rattle.abc_run_state.specs.Outer.{Outer, setting, world};
+ghost use Rattle.abc_run_state.specs.Outer.{Outer, setting_in, world};
 ghost use Rattle.abc_run_state.specs.Stops.{why};
 ghost use Rattle.abc_run_state.specs.declared.state.Stop.TheVariants.{Fills};
-ghost use Rattle.abc_run_finish.specs.Ending.{IsFree, IsFull, IsSized, IsThrowable, end_of, stepped_by};
+ghost use Rattle.abc_run_finish.specs.Ending.{IsUnstuck, IsLimitReached, IsSized, IsThrowable, end_of_run, stepped_by};
 
 use crate::ended::Ended;
 use crate::handlers::HandlersFor;
@@ -38,7 +38,7 @@ fn thrown_as(linked: &Linked, s: &State, v: Value) -> Thrown
     ghost out: { Outer }
     requires over { StandsOver linked.now s.now.arena }
     requires value { Exists linked.now s.now.arena v }
-    ensures { result ≡ thrown_so (setting linked.now out) (world s.now out) v }
+    ensures { result ≡ thrown_so (setting_in linked.now out) (world s.now out) v }
 {
     match v {
         Value::Undefined => Thrown::Undefined,
@@ -56,10 +56,11 @@ fn throw(linked: &Linked, s: &mut State, v: Value) -> Result<(), Ended>
     ghost out: { Outer }
     requires over { StandsOver linked.now s.old.arena }
     requires value { Exists linked.now s.old.arena v }
-    requires sized { IsSized (setting linked.now out) s.old.arena.limits s.old.frames }
-    requires free { IsFree (unwinds (setting linked.now out) (world s.old out) v s.old.frames.living) }
-    ensures step { unwinds (setting linked.now out) (world s.old out) v s.old.frames.living ≡ stepped_by result (world s.new out) s.new.frames }
-    ensures sized { IsSized (setting linked.now out) s.new.arena.limits s.new.frames }
+    requires sized { IsSized (setting_in linked.now out) s.old.arena.limits s.old.frames }
+    requires free { IsUnstuck (unwinds (setting_in linked.now out) (world s.old out) v s.old.frames.living) }
+    ensures step { unwinds (setting_in linked.now out) (world s.old out) v s.old.frames.living
+        ≡ stepped_by result (world s.new out) s.new.frames }
+    ensures sized { IsSized (setting_in linked.now out) s.new.arena.limits s.new.frames }
     ensures limit { s.new.given.limit ≡ s.old.given.limit }
 {
     let handlers = HandlersFor::new(linked, &s.arena, v);
@@ -74,7 +75,7 @@ fn throw(linked: &Linked, s: &mut State, v: Value) -> Result<(), Ended>
 fn fault_at(linked: &Linked, s: &State, fault: Fault) -> Ended
     ghost out: { Outer }
     requires { 0 < length linked.now.file.scripts }
-    ensures { end_of result ≡ fault_so (setting linked.now out) s.now.frames.living fault }
+    ensures { end_of_run result ≡ fault_so (setting_in linked.now out) s.now.frames.living fault }
 {
     if s.frames.depth() > 0 {
         return Ended::Profile {
@@ -93,7 +94,7 @@ fn fault_at(linked: &Linked, s: &State, fault: Fault) -> Ended
 
 /// The limit that a part of a step reached.
 fn limit_of(stop: Stop) -> Limit
-    requires { IsFull stop }
+    requires { IsLimitReached stop }
     ensures { stop ≡ Fills result }
 {
     match stop {
@@ -110,10 +111,12 @@ pub fn stopped(linked: &Linked, s: &mut State, stop: Stop) -> Result<(), Ended>
     requires over { StandsOver linked.now s.old.arena }
     requires scripts { 0 < length linked.now.file.scripts }
     requires value { IsThrowable linked.now s.old.arena stop }
-    requires sized { IsSized (setting linked.now out) s.old.arena.limits s.old.frames }
-    requires free { IsFree (stops (setting linked.now out) (world s.old out) s.old.frames.living (why stop)) }
-    ensures step { stops (setting linked.now out) (world s.old out) s.old.frames.living (why stop) ≡ stepped_by result (world s.new out) s.new.frames }
-    ensures sized { IsSized (setting linked.now out) s.new.arena.limits s.new.frames }
+    requires sized { IsSized (setting_in linked.now out) s.old.arena.limits s.old.frames }
+    requires free { IsUnstuck
+        (stops (setting_in linked.now out) (world s.old out) s.old.frames.living (why stop)) }
+    ensures step { stops (setting_in linked.now out) (world s.old out) s.old.frames.living (why stop)
+        ≡ stepped_by result (world s.new out) s.new.frames }
+    ensures sized { IsSized (setting_in linked.now out) s.new.arena.limits s.new.frames }
     ensures limit { s.new.given.limit ≡ s.old.given.limit }
 {
     match stop {

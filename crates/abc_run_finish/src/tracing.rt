@@ -1,10 +1,10 @@
 ghost use Rattle.std.specs.Prelude.{◌≡◌, ◌≤◌};
 ghost use Rattle.abc_base.specs.Faults.{Rose};
-ghost use Rattle.abc_frames.specs.Ready.{IsReady};
+ghost use Rattle.abc_frames.specs.Ready.{HasFrameRoom};
 ghost use Rattle.abc_run_finish.specs.Outward.{TracesAs};
 ghost use Rattle.abc_run_finish.specs.declared.outward_halts.Unwritten.TheVariants.{Fails};
 ghost use Rattle.abc_run_state.specs.Outer.{Outer};
-ghost use Rattle.abc_run_state.specs.Settling.{given_by, taken_by};
+ghost use Rattle.abc_run_state.specs.Settling.{given_by_how, taken_by};
 ghost use Rattle.abc_run_state.specs.Standing.{IsSet};
 
 use crate::outward_arguments::convert_arguments;
@@ -26,9 +26,10 @@ pub fn trace<K: Sink>(
 ) -> Result<(), Unwritten>
     ghost out: { Outer }
     requires set { IsSet linked.now s.old }
-    requires ready { IsReady (taken_by how) (given_by how) s.old.frames }
+    requires ready { HasFrameRoom (taken_by how) (given_by_how how) s.old.frames }
     requires count { count ≤ taken_by how }
-    ensures traces { TracesAs linked.now out count how s.old result s.new (K.written sink.old) (K.written sink.new) }
+    ensures traces { TracesAs linked.now out count how s.old result s.new (K.written sink.old)
+        (K.written sink.new) }
     ensures later { K.faults sink.old ≤ K.faults sink.new }
     ensures cause { result ≡ Err Fails → Rose (K.faults sink.old) (K.faults sink.new) }
     ensures limit { s.new.given.limit ≡ s.old.given.limit }

@@ -20,7 +20,7 @@ use Rattle.abc_link_names.specs.Places.{place_under}
 use Rattle.abc_link_names.specs.declared.part.Part.{Part}
 use Rattle.abc_link_names.specs.declared.part.Part.TheVariants as parts
 use Rattle.abc_link_names.specs.ClassBases.{BaseKnown}
-use Rattle.abc_meaning.specs.Newing.{is_that}
+use Rattle.abc_meaning.specs.Newing.{is_same_object}
 use Rattle.abc_meaning.specs.Making.{prototype_in}
 use Rattle.abc_meaning.specs.World.{Errs, Outcome, Run, Stopped, Went, World, see, throws}
 use Rattle.abc_run_members.specs.declared.bases.Base.{Base}
@@ -80,11 +80,11 @@ base_known l (bases.Host c) h = tt
 asking : ObjId → Bool → World → Outcome (Option ObjId)
 asking o b w = let r : Run (Option ObjId) = if b then see (prototype_in o) else throws hosts.TypeError in r w
 
-pub that_is : (made : Option ObjId) (v : Value) (o given : ObjId) (w : World) (r : Option ObjId) → made ≡ Some o → v ≡ Obj given → o.0 ≡ given.0 → r ≡ prototype_of w.heap o.0 → is_that made v w ≡ Went w r
+pub that_is : (made : Option ObjId) (v : Value) (o given : ObjId) (w : World) (r : Option ObjId) → made ≡ Some o → v ≡ Obj given → o.0 ≡ given.0 → r ≡ prototype_of w.heap o.0 → is_same_object made v w ≡ Went w r
 unfolding asking
 that_is made v o given w r em ev same e =
-    ap (λ x. is_that x v w) em ∙ ap (λ x. is_that (Some o) x w) ev ∙ ap (λ b. asking o b w) (eq-eqb o.0 given.0 same) ∙ ap (Went w) (sym e)
+    ap (λ x. is_same_object x v w) em ∙ ap (λ x. is_same_object (Some o) x w) ev ∙ ap (λ b. asking o b w) (eq-eqb o.0 given.0 same) ∙ ap (Went w) (sym e)
 
-pub other_that : (made : Option ObjId) (v : Value) (o given : ObjId) (w : World) → made ≡ Some o → v ≡ Obj given → (o.0 ≡ given.0 → ⊥) → is_that made v w ≡ Stopped w (Errs hosts.TypeError)
+pub other_that : (made : Option ObjId) (v : Value) (o given : ObjId) (w : World) → made ≡ Some o → v ≡ Obj given → (o.0 ≡ given.0 → ⊥) → is_same_object made v w ≡ Stopped w (Errs hosts.TypeError)
 unfolding asking
-other_that made v o given w em ev ne = ap (λ x. is_that x v w) em ∙ ap (λ x. is_that (Some o) x w) ev ∙ ap (λ b. asking o b w) (ne_eqb o.0 given.0 ne)
+other_that made v o given w em ev ne = ap (λ x. is_same_object x v w) em ∙ ap (λ x. is_same_object (Some o) x w) ev ∙ ap (λ b. asking o b w) (ne_eqb o.0 given.0 ne)

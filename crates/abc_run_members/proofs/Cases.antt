@@ -11,7 +11,7 @@ use Rattle.abc_link_names.specs.declared.types.Owner.{Owner}
 use Rattle.abc_heap_store.specs.Heap.{Object, object_at}
 use Rattle.abc_objects.specs.Values.{IsObject}
 use Rattle.abc_objects.specs.Searches.{declared_found}
-use Rattle.abc_objects.specs.Spaces.{holds_public}
+use Rattle.abc_objects.specs.Spaces.{name_holds_public}
 use Rattle.abc_objects.specs.declared.found.Found.{Found}
 use Rattle.abc_objects.specs.declared.found.Found.TheVariants as founds
 use Rattle.abc_objects.specs.declared.found.Want.TheVariants.{Write}
@@ -19,7 +19,7 @@ use Rattle.abc_objects.specs.declared.name.Name.{Name}
 use Rattle.abc_run_calls.specs.Calls.{settled_by}
 use Rattle.abc_frames.specs.Frame.{Frame, arguments}
 use Rattle.abc_run_state.specs.Operands.{operand_at}
-use Rattle.abc_run_state.specs.Settling.{settles}
+use Rattle.abc_run_state.specs.Settling.{settles_how}
 use Rattle.abc_run_state.specs.Stops.{IsOpen}
 use Rattle.abc_run_state.specs.declared.state.How.{How}
 use Rattle.abc_run_state.proofs.Turning.{open_first}
@@ -133,7 +133,7 @@ getter_called p m (values.Space n) receiver args w h = absurd h
 
 pub call_open : (p : Setting) (found : Found) (m : ℕ) (v receiver : Value) (args : List Value) (how : How) (f : Frame) (w : World) → found ≡ founds.Getter m → IsOpen (settled_by how f (call_found p found v receiver args) w) → IsOpen (call_found p (founds.Getter m) v receiver args w)
 call_open p found m v receiver args how f w is h =
-    open_first (call_found p (founds.Getter m) v receiver args w) (settles how f) (subst (λ (x : Found). IsOpen (settled_by how f (call_found p x v receiver args) w)) is h)
+    open_first (call_found p (founds.Getter m) v receiver args w) (settles_how how f) (subst (λ (x : Found). IsOpen (settled_by how f (call_found p x v receiver args) w)) is h)
 
 pub value_called : (p : Setting) (found : Found) (v receiver : Value) (args : List Value) (w : World) → ((owner : Owner) (m : ℕ) → found ≡ founds.Method owner m → ⊥) → ((m : ℕ) → found ≡ founds.Getter m → ⊥)
     → call_found p found v receiver args w ≡ (value_found p found v >>= λ f. calls p f receiver args) w
@@ -166,7 +166,7 @@ value_is_written p o name x initial (founds.Property holder y) w apart = refl
 value_is_written p o name x initial (founds.Element holder k) w apart = refl
 value_is_written p o name x initial (founds.Length holder) w apart = refl
 value_is_written p o name x initial founds.WrongSide w apart = refl
-value_is_written p o name x initial founds.Missing w apart = missing (holds_public p.linked name.spaces)
+value_is_written p o name x initial founds.Missing w apart = missing (name_holds_public p.linked name.spaces)
   where
     missing : (b : Bool) → (let m : Run Came = if b then (write_property p o name.text x >> got values.Undefined) else throws hosts.ReferenceError in m w) ≡ ((if b then write_property p o name.text x else throws hosts.ReferenceError) >>= λ u. got values.Undefined) w
     missing true = refl
@@ -242,8 +242,8 @@ pub setter_written : (p : Setting) (o : ObjId) (name : Name) (x : Value) (initia
 setter_written p o name x initial found m f w b e is =
     ap (λ (y : Found). write_found p o name x initial y w) is ∙ ap (λ (vs : List Value). enters_on p m (values.Obj o) vs w) (sym (one_taken f.stack x b e))
 
-pub public_kept : (p : Setting) (o : ObjId) (name : Name) (x : Value) (w : World) (b : Bool) → b ≡ holds_public p.linked name.spaces → b ≡ true → public_written p o name x w ≡ write_property p o name.text x w
+pub public_kept : (p : Setting) (o : ObjId) (name : Name) (x : Value) (w : World) (b : Bool) → b ≡ name_holds_public p.linked name.spaces → b ≡ true → public_written p o name x w ≡ write_property p o name.text x w
 public_kept p o name x w b e t = ap (λ (c : Bool). (if c then write_property p o name.text x else throws hosts.ReferenceError) w) (sym e ∙ t)
 
-pub public_refused : (p : Setting) (o : ObjId) (name : Name) (x : Value) (w : World) (b : Bool) → b ≡ holds_public p.linked name.spaces → b ≡ false → public_written p o name x w ≡ Stopped w (Errs hosts.ReferenceError)
+pub public_refused : (p : Setting) (o : ObjId) (name : Name) (x : Value) (w : World) (b : Bool) → b ≡ name_holds_public p.linked name.spaces → b ≡ false → public_written p o name x w ≡ Stopped w (Errs hosts.ReferenceError)
 public_refused p o name x w b e t = ap (λ (c : Bool). (if c then write_property p o name.text x else throws hosts.ReferenceError) w) (sym e ∙ t)

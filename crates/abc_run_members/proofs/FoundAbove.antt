@@ -5,9 +5,9 @@ use Rattle.std.specs.List.{list_any}
 use Rattle.abc_heap_values.specs.declared.values.ObjId.{ObjId}
 use Rattle.abc_heap_store.specs.Heap.{Heap, object_at}
 use Rattle.abc_base_graphs.specs.Ways.{before, way}
-use Rattle.abc_link_names.specs.Linked.{IsLinkedFile, LinkedFile, above, base}
+use Rattle.abc_link_names.specs.Linked.{IsLinkedFile, LinkedFile, above, base_layout}
 use Rattle.abc_link_names.proofs.Tree.{above_le}
-use Rattle.abc_objects.specs.Candidates.{Candidate, OfElement, OfLength, OfProperty, OfTrait, fits, found, found_as, traits, traits_after}
+use Rattle.abc_objects.specs.Candidates.{Candidate, OfElement, OfLength, OfProperty, OfTrait, fits, found_candidate, found_as, traits, traits_after}
 use Rattle.abc_objects.specs.Laws.{AnswersTheFirst}
 use Rattle.abc_objects.specs.Results.{skip_for}
 use Rattle.abc_objects.specs.Searches.{declared_found}
@@ -36,7 +36,7 @@ abbrev IsTrait : Candidate → Type 0
 IsTrait (OfTrait x passed t) = Unit {0}
 IsTrait other = ⊥
 
-trait_there : (l : LinkedFile) (c : Candidate) → IsTrait c → IsDeclared l (found l c)
+trait_there : (l : LinkedFile) (c : Candidate) → IsTrait c → IsDeclared l (found_candidate l c)
 trait_there l (OfTrait x passed t) is = member_there l t.declared.member
 trait_there l (OfLength holder) is = absurd is
 trait_there l (OfElement holder index) is = absurd is
@@ -66,7 +66,7 @@ declared_there : (l : LinkedFile) (h : Heap) (object from : ℕ) (n : Name) (wan
 unfolding declared_found
 declared_there l h object from n want first = elim (first l h n (skip_for want) (traits l object from)) [
   | inl hit ↦
-      let is = one_trait hit.1.before hit.1.after hit.0 (subst AllTraits hit.1.parts (all_traits l (before from (way (base l) (Some object))) (way (base l) (Some from)))) in
+      let is = one_trait hit.1.before hit.1.after hit.0 (subst AllTraits hit.1.parts (all_traits l (before from (way (base_layout l) (Some object))) (way (base_layout l) (Some from)))) in
       subst (IsDeclared l) (sym hit.2) (trait_there l hit.0 is)
   | inr miss ↦ subst (IsDeclared l) (sym miss.1) (none_there l (list_any (fits l h n) (traits l object from)))
 ]

@@ -32,8 +32,8 @@ use Rattle.abc_file_types.specs.declared.traits.TraitBody.TheVariants as traits
 use Rattle.abc_file_types.specs.declared.traits.TraitInfo.{TraitInfo}
 use Rattle.abc_verify_typing.specs.Lists.{Each}
 use Rattle.abc_verify_typing.proofs.Lists.{Each-append, Each-at}
-use Rattle.abc_meaning.specs.Objects.{Place, class_object, instances_of, kept_by, place, place_of_owner, statics_of}
-use Rattle.abc_meaning.specs.World.{Went, World, and_then, object, some, the, ◌>>=◌}
+use Rattle.abc_meaning.specs.Objects.{Place, class_object, instances_of, place_kept_by, place, place_of_owner, statics_of}
+use Rattle.abc_meaning.specs.World.{Went, World, and_then, object_named, some, the, ◌>>=◌}
 
 -- ---- lists
 
@@ -154,7 +154,7 @@ instances_there l h (whats.ClassObject k s statics instances) at n e = let same 
 instances_there l h other at n e = absurd cc
 
 kept_there : (l : LinkedFile) (w : World) (which : What → Option Place) (k : ℕ) (at : Place) → StandsOver l w.heap
-    → ((what : What) (here : Place) → NamesParts l w.heap what → which what ≡ Some here → PlaceThere l w.heap here) → kept_by which k w ≡ Went w at → PlaceThere l w.heap at
+    → ((what : What) (here : Place) → NamesParts l w.heap what → which what ≡ Some here → PlaceThere l w.heap here) → place_kept_by which k w ≡ Went w at → PlaceThere l w.heap at
 kept_there l w which k at over f e = class_of (class_object k w) e
   where
     at_what : (ob : Object) (r : Option Place) → NamesParts l w.heap ob.what → which ob.what ≡ r → some r w ≡ Went w at → PlaceThere l w.heap at
@@ -165,9 +165,9 @@ kept_there l w which k at over f e = class_of (class_object k w) e
     of_object o None q g = absurd cc
     of_object o (Some ob) q g = at_what ob (which ob.what) (over.objects o.0 ob q).what refl g
 
-    class_of : (r : Option ObjId) → and_then (some r w) (λ o. the (object o) >>= λ ob. some (which ob.what)) ≡ Went w at → PlaceThere l w.heap at
+    class_of : (r : Option ObjId) → and_then (some r w) (λ o. the (object_named o) >>= λ ob. some (which ob.what)) ≡ Went w at → PlaceThere l w.heap at
     class_of None g = absurd cc
-    class_of (Some o) g = of_object o (object o w) refl g
+    class_of (Some o) g = of_object o (object_named o w) refl g
 
 place_there : (l : LinkedFile) (w : World) (o : Owner) (at : Place) → StandsOver l w.heap → OwnerThere l o → place_of_owner o w ≡ Went w at → PlaceThere l w.heap at
 place_there l w owners.Free at over there e = absurd cc

@@ -16,7 +16,7 @@ use Rattle.abc_objects.proofs.Opened.{global_made, host_made}
 use Rattle.abc_link_names.specs.Linked.{LinkedFile}
 use Rattle.abc_objects.specs.Laws.{FindsTheFirstPlace}
 use Rattle.abc_objects.specs.Objects.{global_number}
-use Rattle.abc_objects.specs.Scopes.{InHost, InScope, InScript, Place, no_node, node_at, parent_at, places, saved_places, scope_named, scope_number}
+use Rattle.abc_objects.specs.Scopes.{InHost, InScope, InScript, ScopePlace, no_node, node_at, parent_at, scope_places, saved_places, scope_named, scope_number}
 use Rattle.abc_objects.specs.Searches.{found_in_scopes}
 use Rattle.abc_objects.specs.declared.found.ScopeFound.TheVariants as results
 use Rattle.abc_objects.specs.declared.name.Name.{Name}
@@ -42,7 +42,7 @@ each_entry h (e ∷ es) a = (a 0 e refl, each_entry h es (λ k x is. a (suc k) x
 
 -- ---- the places of a search
 
-abbrev PlaceThere : LinkedFile → Heap → Place → Type 0
+abbrev PlaceThere : LinkedFile → Heap → ScopePlace → Type 0
 PlaceThere l h (InScope e) = IsObject h e.object
 PlaceThere l h (InScript s) = s < length l.file.scripts
 PlaceThere l h InHost = Unit {0}
@@ -67,10 +67,10 @@ saved_there l h st saved is =
     each_mapped (λ (x : ℕ). x < length h.scopes) (PlaceThere l h) (λ s. InScope (node_at h s).entry) (way (parent_at h) (scope_number saved))
     (λ s low. entry_in l h s (node_at h s) st (slice_get-get_or h.scopes s no_node low)) (low_way l h st saved is)
 
-places_there : (l : LinkedFile) (h : Heap) (es : List ScopeEntry) (saved : Option ScopeId) → StandsOver l h → AreEntries h es → IsScope h saved → Each (PlaceThere l h) (places l h es saved)
+places_there : (l : LinkedFile) (h : Heap) (es : List ScopeEntry) (saved : Option ScopeId) → StandsOver l h → AreEntries h es → IsScope h saved → Each (PlaceThere l h) (scope_places l h es saved)
 places_there l h es saved st a is =
     let n = length l.file.scripts in
-    let P : Place → Type 0 = PlaceThere l h in
+    let P : ScopePlace → Type 0 = PlaceThere l h in
     let scripts = map InScript (range_with_len 0 n) in
     Each-append P (map InScope (reverse es)) (saved_places h saved ++ (scripts ++ InHost ∷ []))
     (each_mapped (λ (e : ScopeEntry). IsObject h e.object) P InScope (reverse es) (λ e i. i) (Each-reverse (λ (e : ScopeEntry). IsObject h e.object) es (each_entry h es a)))
@@ -79,7 +79,7 @@ places_there l h es saved st a is =
 
 -- ---- what is found
 
-place_found : (l : LinkedFile) (h : Heap) (started : List Bool) → StandsOver l h → (q : Place) → PlaceThere l h q → IsScopeThere l h (scope_named h started (Some q))
+place_found : (l : LinkedFile) (h : Heap) (started : List Bool) → StandsOver l h → (q : ScopePlace) → PlaceThere l h q → IsScopeThere l h (scope_named h started (Some q))
 place_found l h started st (InScope e) is = is
 place_found l h started st (InScript s) is = go (get_or started s false)
   where

@@ -7,13 +7,13 @@ use Rattle.abc_heap_values.specs.declared.values.Span.{Span}
 use Rattle.abc_heap_values.specs.declared.values.ObjId.{ObjId}
 use Rattle.abc_heap_values.specs.declared.values.Value.{Value}
 use Rattle.abc_heap_values.specs.declared.values.Value.TheVariants.{Obj}
-use Rattle.abc_lookup.specs.NoTraits.{IsFirst}
+use Rattle.abc_lookup.specs.NoTraits.{IsFoundFirst}
 use Rattle.abc_heap_store.specs.Heap.{Heap, Object, object_at, properties_of}
 use Rattle.abc_objects.specs.Stands.{StandsOver}
 use Rattle.abc_objects.specs.Values.{Exists}
 use Rattle.abc_link_names.specs.Linked.{LinkedFile}
-use Rattle.abc_objects.specs.Candidates.{Candidate, OfElement, OfLength, OfProperty, OfTrait, candidates_on, fits, found, found_as}
-use Rattle.abc_objects.specs.Laws.{AnswersTheFirst, FindsWhatIsThere, IsThere}
+use Rattle.abc_objects.specs.Candidates.{Candidate, OfElement, OfLength, OfProperty, OfTrait, candidates_on, fits, found_candidate, found_as}
+use Rattle.abc_objects.specs.Laws.{AnswersTheFirst, FindsWhatIsThere, IsFoundPresent}
 use Rattle.abc_objects.specs.Results.{skip_for}
 use Rattle.abc_objects.specs.Searches.{found_on}
 use Rattle.abc_objects.specs.declared.found.Found.{Found}
@@ -49,7 +49,7 @@ member_there l h (members.Method m) = refl
 member_there l h (members.Getter m) = tt
 member_there l h (members.Setter m) = tt
 
-candidate_there : (l : LinkedFile) (h : Heap) (c : Candidate) → StandsOver l h → IsThere h (found l c) → IsFoundThere l h (found l c)
+candidate_there : (l : LinkedFile) (h : Heap) (c : Candidate) → StandsOver l h → IsFoundPresent h (found_candidate l c) → IsFoundThere l h (found_candidate l c)
 candidate_there l h (OfTrait x passed t) over is = member_there l h t.declared.member
 candidate_there l h (OfLength o) over is = tt
 candidate_there l h (OfElement o k) over is = tt
@@ -62,19 +62,19 @@ none_there l h false = tt
 pub found_there : (l : LinkedFile) (h : Heap) (v : Value) (n : Name) (want : Want) → AnswersTheFirst → FindsWhatIsThere → StandsOver l h → IsFoundThere l h (found_on l h v n want)
 unfolding found_on
 found_there l h v n want answers finds over = elim (answers l h n (skip_for want) (candidates_on l h n v)) [
-  | inl hit ↦ subst (IsFoundThere l h) (sym hit.2) (candidate_there l h hit.0 over (subst (IsThere h) hit.2 (finds l h v n want)))
+  | inl hit ↦ subst (IsFoundThere l h) (sym hit.2) (candidate_there l h hit.0 over (subst (IsFoundPresent h) hit.2 (finds l h v n want)))
   | inr miss ↦ subst (IsFoundThere l h) (sym miss.1) (none_there l h (list_any (fits l h n) (candidates_on l h n v)))
 ]
 
 -- ---- what is found at once
 
-pub property_first : (l : LinkedFile) (h : Heap) (o : ObjId) (n : Name) (x : Found) (holder : ObjId) (v : Value) → IsFirst l h o n x → x ≡ founds.Property holder v → x ≡ found_on l h (Obj o) n Read
-property_first l h o n x holder v f is = is ∙ subst (IsFirst l h o n) is f Read
+pub property_first : (l : LinkedFile) (h : Heap) (o : ObjId) (n : Name) (x : Found) (holder : ObjId) (v : Value) → IsFoundFirst l h o n x → x ≡ founds.Property holder v → x ≡ found_on l h (Obj o) n Read
+property_first l h o n x holder v f is = is ∙ subst (IsFoundFirst l h o n) is f Read
 
-pub element_first : (l : LinkedFile) (h : Heap) (o : ObjId) (n : Name) (x : Found) (holder : ObjId) (k : ℕ) → IsFirst l h o n x → x ≡ founds.Element holder k → x ≡ found_on l h (Obj o) n Read
-element_first l h o n x holder k f is = is ∙ subst (IsFirst l h o n) is f Read
+pub element_first : (l : LinkedFile) (h : Heap) (o : ObjId) (n : Name) (x : Found) (holder : ObjId) (k : ℕ) → IsFoundFirst l h o n x → x ≡ founds.Element holder k → x ≡ found_on l h (Obj o) n Read
+element_first l h o n x holder k f is = is ∙ subst (IsFoundFirst l h o n) is f Read
 
-pub first_there : (l : LinkedFile) (h : Heap) (o : ObjId) (n : Name) (x : Found) → AnswersTheFirst → FindsWhatIsThere → StandsOver l h → IsFirst l h o n x → IsFoundThere l h x
+pub first_there : (l : LinkedFile) (h : Heap) (o : ObjId) (n : Name) (x : Found) → AnswersTheFirst → FindsWhatIsThere → StandsOver l h → IsFoundFirst l h o n x → IsFoundThere l h x
 first_there l h o n founds.Missing answers finds over f = tt
 first_there l h o n (founds.Slot k c) answers finds over f = tt
 first_there l h o n (founds.Getter m) answers finds over f = tt

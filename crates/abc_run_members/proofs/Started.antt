@@ -16,13 +16,13 @@ use Rattle.abc_frames.specs.Frame.{Frame}
 use Rattle.abc_frames.specs.declared.records.Wait.TheVariants.{Keep}
 use Rattle.abc_file_types.specs.declared.classes.ClassInfo.{ClassInfo}
 use Rattle.abc_file_types.specs.declared.tables.Abc.{Abc}
-use Rattle.abc_meaning.specs.At.{Above, Act, Goes, waiting}
+use Rattle.abc_meaning.specs.At.{Above, Act, Goes, waiting_frame}
 use Rattle.abc_meaning.specs.Newing.{base_prototype}
 use Rattle.abc_run_state.specs.Operands.{operand_at}
 use Rattle.abc_meaning.specs.Entering.{enters_owned}
 use Rattle.abc_meaning.specs.Objects.{new_class}
 use Rattle.abc_meaning.specs.Setting.{Setting}
-use Rattle.abc_meaning.specs.World.{Outcome, Stop, Stopped, Went, World, and_then, done, ◌>>=◌}
+use Rattle.abc_meaning.specs.World.{Outcome, Stop, Stopped, Went, World, and_then, pure, ◌>>=◌}
 use Rattle.abc_run_members.specs.Scoped.{enters_class, makes_unmade}
 
 -- ---- what the tables of the file say
@@ -44,7 +44,7 @@ none_taken (v ∷ vs) = refl
 
 pub initializes : (p : Setting) (k n : ℕ) (o : ObjId) (v : Value) (f : Frame) (w : World) → n ≡ (class_at p.linked.file k).cinit → v ≡ Obj o → enters_class p k o f w ≡ enters_owned_above p n v 0 1 (Keep v) f w
 initializes p k n o v f w e is =
-    ap (λ vs. (enters_owned p (class_at p.linked.file k).cinit (Obj o) vs >>= λ g. done (Goes (Above g (waiting (Keep (Obj o)) (Rattle.abc_frames.specs.Frame.dropped 1 f))))) w) (sym (none_taken f.stack))
+    ap (λ vs. (enters_owned p (class_at p.linked.file k).cinit (Obj o) vs >>= λ g. pure (Goes (Above g (waiting_frame (Keep (Obj o)) (Rattle.abc_frames.specs.Frame.after_drop 1 f))))) w) (sym (none_taken f.stack))
     ∙ ap (λ m. enters_owned_above p m (Obj o) 0 1 (Keep (Obj o)) f w) (sym e)
     ∙ ap (λ x. enters_owned_above p n x 0 1 (Keep x) f w) (sym is)
 

@@ -15,20 +15,20 @@ use Rattle.abc_heap_store.specs.What.{is_array}
 use Rattle.abc_lookup.proofs.NoTraits.{own_element}
 use Rattle.abc_lookup.proofs.Stands.{delegates_fall}
 use Rattle.abc_lookup.specs.declared.elements.ElementName.TheVariants.{Number}
-use Rattle.abc_lookup.specs.Named.{element_on}
-use Rattle.abc_lookup.specs.NoTraits.{HasNoTraits, IsPlain}
-use Rattle.abc_meaning.specs.Names.{named}
+use Rattle.abc_lookup.specs.Named.{element_name_on}
+use Rattle.abc_lookup.specs.NoTraits.{HasNoTraits, IsWithoutTraits}
+use Rattle.abc_meaning.specs.Names.{name_by_form}
 use Rattle.abc_run_members.proofs.Cases.{reads_as}
 use Rattle.abc_run_members.proofs.ElementsHeld.{element_taken}
 use Rattle.abc_run_members.proofs.Searched.{object_inside}
 use Rattle.abc_objects.specs.Stands.{StandsOver}
 use Rattle.abc_objects.specs.Values.{IsObject}
 use Rattle.abc_ops.proofs.Making.{made_is}
-use Rattle.abc_ops.specs.Conversions.{spelled}
+use Rattle.abc_ops.specs.Conversions.{spelling}
 use Rattle.abc_link_names.specs.Linked.{LinkedFile}
 use Rattle.abc_run_members.proofs.Numerals.{decimal_name, decimal_number}
 use Rattle.abc_run_members.specs.AtOnce.{TellsElement}
-use Rattle.abc_objects.specs.Spaces.{holds_public}
+use Rattle.abc_objects.specs.Spaces.{name_holds_public}
 use Rattle.abc_objects.specs.ElementNames.{IsNumber, element_name, element_number}
 use Rattle.abc_objects.specs.declared.found.Found.TheVariants as founds
 use Rattle.abc_objects.specs.declared.found.Want.TheVariants.{Read}
@@ -39,7 +39,7 @@ use Rattle.abc_run_state.specs.Outer.{at_heap}
 use Rattle.abc_meaning.specs.Calling.{Got, got}
 use Rattle.abc_meaning.specs.Members.{reads, write_element, writes_to}
 use Rattle.abc_meaning.specs.Setting.{NoText, Setting}
-use Rattle.abc_meaning.specs.World.{Outcome, Run, Went, World, and_then, done, some, ◌>>=◌}
+use Rattle.abc_meaning.specs.World.{Outcome, Run, Went, World, and_then, pure, some, ◌>>=◌}
 
 -- ---- the text of a number
 
@@ -50,10 +50,10 @@ text_made pool old new s bytes m =
     ∙ ap (take (length bytes)) (drop-append_seam old.made bytes)
     ∙ take_all (length bytes) bytes (omega arith)
 
-pub name_made : (p : Setting) (of : Spaces) (k : ℕ) (w : World) (new : Heap) (s : Span) → IsTextMade w.heap new s (decimal k) → named p (Some (NoText of)) (values.Num (pos k) ∷ []) w ≡ Went (at_heap new w) (record { spaces = of; text = s })
+pub name_made : (p : Setting) (of : Spaces) (k : ℕ) (w : World) (new : Heap) (s : Span) → IsTextMade w.heap new s (decimal k) → name_by_form p (Some (NoText of)) (values.Num (pos k) ∷ []) w ≡ Went (at_heap new w) (record { spaces = of; text = s })
 name_made p of k w new s m =
-    let named_by : Span → Run Name = λ text. done (record { spaces = of; text = text }) in
-    ap (λ (o : Outcome Span). and_then o named_by) (operated_ok (λ h. spelled p.linked h (values.Num (pos k))) w s new (made_is w.heap new s (decimal k) m))
+    let named_by : Span → Run Name = λ text. pure (record { spaces = of; text = text }) in
+    ap (λ (o : Outcome Span). and_then o named_by) (operated_ok (λ h. spelling p.linked h (values.Num (pos k))) w s new (made_is w.heap new s (decimal k) m))
 
 -- ---- what is told, and that it stays so
 
@@ -62,10 +62,10 @@ pub number_of : (h : Heap) (o : ObjId) (asked : Value) (n : ℤ) (r : Option ℕ
 number_of h o asked n None is m = tt
 number_of h o asked n (Some k) is m = (is ∙ ap values.Num m.0, m.1, m.2)
 
-pub told_of : (l : LinkedFile) (h : Heap) (of : Spaces) (o : ObjId) (asked : Value) (name : Name) (r : Option ℕ) → name.spaces ≡ of → IsPlain l h o name → is_array (object_at h.objects o.0).what ≡ true
+pub told_of : (l : LinkedFile) (h : Heap) (of : Spaces) (o : ObjId) (asked : Value) (name : Name) (r : Option ℕ) → name.spaces ≡ of → IsWithoutTraits l h o name → is_array (object_at h.objects o.0).what ≡ true
     → MatchOption r (Unit {0}) (λ k. (asked ≡ values.Num (pos k)) × (k ≤ 4294967294) × (k < length (elements_of h.objects o.0))) → MatchOption r (Unit {0}) (TellsElement l h of o asked)
 told_of l h of o asked name None e plain array m = tt
-told_of l h of o asked name (Some k) e plain array m = record { number = m.0; few = m.1; there = m.2; array = array; bare = plain.bare; public = subst (λ (x : Spaces). holds_public l x ≡ true) e plain.public }
+told_of l h of o asked name (Some k) e plain array m = record { number = m.0; few = m.1; there = m.2; array = array; bare = plain.bare; public = subst (λ (x : Spaces). name_holds_public l x ≡ true) e plain.public }
 
 pub told_stays : (l : LinkedFile) (old new : Heap) (of : Spaces) (o : ObjId) (asked : Value) (k : ℕ) (s : Span) (bytes : List ℕ) → IsTextMade old new s bytes → TellsElement l old of o asked k → TellsElement l new of o asked k
 told_stays l old new of o asked k s bytes m t =
@@ -82,7 +82,7 @@ told_stays l old new of o asked k s bytes m t =
 pub object_stays : (old new : Heap) (o : ObjId) (s : Span) (bytes : List ℕ) → IsTextMade old new s bytes → IsObject old o → IsObject new o
 object_stays old new o s bytes m h = subst (λ (obs : List Object). o.0 < length obs) (sym (ap (λ (x : Heap). x.objects) m.heap)) h
 
-pub plain_of : (l : LinkedFile) (h : Heap) (of : Spaces) (o : ObjId) (asked : Value) (k : ℕ) (s : Span) → TellsElement l h of o asked k → IsPlain l h o (record { spaces = of; text = s })
+pub plain_of : (l : LinkedFile) (h : Heap) (of : Spaces) (o : ObjId) (asked : Value) (k : ℕ) (s : Span) → TellsElement l h of o asked k → IsWithoutTraits l h o (record { spaces = of; text = s })
 plain_of l h of o asked k s t = record { bare = t.bare; public = t.public }
 
 -- ---- it is read
@@ -108,5 +108,5 @@ element_written p w new of o asked k s x initial m t inner =
     let l = p.linked in
     let told = told_stays l w.heap new of o asked k s (decimal k) m t in
     let name : element_name (text_of l.file.strings new s) ≡ Some (IsNumber k) = ap element_name (text_made l.file.strings w.heap new s (decimal k) m) ∙ decimal_name k t.few in
-    let on : element_on l new o s ≡ Some (IsNumber k) = ap (λ (b : Bool). cond b (element_name (text_of l.file.strings new s)) None) told.array ∙ name in
+    let on : element_name_on l new o s ≡ Some (IsNumber k) = ap (λ (b : Bool). cond b (element_name (text_of l.file.strings new s)) None) told.array ∙ name in
     element_taken p o (record { spaces = of; text = s }) x initial (at_heap new w) (Number k) k (object_stays w.heap new o s (decimal k) m inner) (plain_of l new of o asked k s told) (sym on) refl

@@ -8,7 +8,7 @@ use Rattle.abc_heap_store.specs.What.{is_array}
 use Rattle.abc_lookup.specs.NoTraits.{HasNoTraits}
 use Rattle.abc_link_names.specs.Linked.{LinkedFile}
 use Rattle.abc_objects.specs.Candidates.{layout_at}
-use Rattle.abc_objects.specs.Spaces.{holds_public}
+use Rattle.abc_objects.specs.Spaces.{name_holds_public}
 use Rattle.abc_objects.specs.declared.name.Spaces.{Spaces}
 use Rattle.abc_run_state.specs.declared.state.How.{How}
 use Rattle.abc_run_state.specs.declared.state.How.TheVariants.{Drop, Push}
@@ -20,7 +20,7 @@ pub record TellsElement (l : LinkedFile) (h : Heap) (of : Spaces) (o : ObjId) (a
   pub there : k < length (elements_of h.objects o.0)
   pub array : is_array (object_at h.objects o.0).what ≡ true
   pub bare : HasNoTraits l (layout_at h o.0)
-  pub public : holds_public l of ≡ true
+  pub public : name_holds_public l of ≡ true
 
 -- what becomes of so many operands, which a call takes
 abbrev pub how_for : (drops : Bool) → ℕ → How

@@ -18,8 +18,8 @@ use Rattle.abc_meaning.specs.Setting.{Setting}
 use Rattle.abc_meaning.specs.World.{World}
 
 -- what the search in scopes finds for a name, from a frame
-abbrev pub find_in_scopes : Setting → Frame → Name → World → ScopeFound
-find_in_scopes p f name w = found_in_scopes p.linked w.heap f.scopes f.saved w.started name
+abbrev pub found_from_scopes : Setting → Frame → Name → World → ScopeFound
+found_from_scopes p f name w = found_in_scopes p.linked w.heap f.scopes f.saved w.started name
 
 -- what was found is there, and a script that is to be started is one of the file
 abbrev pub IsScopeThere : LinkedFile → Heap → ScopeFound → Type 0

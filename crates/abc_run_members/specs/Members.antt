@@ -9,7 +9,7 @@ use Rattle.abc_heap_store.specs.Heap.{Heap, object_at}
 use Rattle.abc_objects.specs.Values.{Exists}
 use Rattle.abc_link_names.specs.Linked.{LinkedFile}
 use Rattle.abc_link_names.specs.Owners.{owner_of}
-use Rattle.abc_objects.specs.Spaces.{holds_public}
+use Rattle.abc_objects.specs.Spaces.{name_holds_public}
 use Rattle.abc_objects.specs.declared.found.Found.{Found}
 use Rattle.abc_objects.specs.declared.found.Found.TheVariants.{Method, Missing, Property, Slot, WrongSide}
 use Rattle.abc_objects.specs.declared.name.Name.{Name}
@@ -17,17 +17,17 @@ use Rattle.abc_frames.specs.Frame.{Frame, arguments, dropped_under, waiting}
 use Rattle.abc_frames.specs.declared.records.Wait.TheVariants.{New}
 use Rattle.abc_run_calls.specs.Calls.{calls_value, makes_value, settled_by}
 use Rattle.abc_run_members.specs.AtOnce.{how_for}
-use Rattle.abc_run_names.specs.Named.{form_at, named_here, parts_count}
+use Rattle.abc_run_names.specs.Named.{name_form_at, named_here, name_parts_count}
 use Rattle.abc_run_state.specs.declared.state.How.{How}
 use Rattle.abc_run_state.specs.declared.state.How.TheVariants.{Drop, Push}
 use Rattle.abc_run_state.specs.Operands.{operand_at}
-use Rattle.abc_meaning.specs.Calling.{Calls, Came, Got, Makes, calls, entered, got}
+use Rattle.abc_meaning.specs.Calling.{Calls, Came, Got, Makes, calls, calls_frame, got}
 use Rattle.abc_meaning.specs.Entering.{enters_owned}
 use Rattle.abc_meaning.specs.Making.{new}
-use Rattle.abc_meaning.specs.Members.{at_place, bound_function, call_found, calls_name, may_hold, read_found, reads, value_found, write_element, write_found, write_property, write_slot, writes_to}
+use Rattle.abc_meaning.specs.Members.{value_at_place, bound_function, call_found, calls_name, may_hold, read_found, reads, value_found, write_element, write_found, write_property, write_slot, writes_to}
 use Rattle.abc_meaning.specs.Objects.{own_place, set_property}
 use Rattle.abc_meaning.specs.Setting.{Setting, is_dynamic_layout}
-use Rattle.abc_meaning.specs.World.{Run, World, done, object, stuck, the, throws, ◌>>=◌}
+use Rattle.abc_meaning.specs.World.{Run, World, pure, object_named, sticks, the, throws, ◌>>=◌}
 use Rattle.abc_meaning.specs.At.{Above, Act, Goes}
 
 -- what was found is there: a property's value exists, and a method is its owner's
@@ -40,19 +40,19 @@ IsFoundThere l h found = Unit {0}
 
 -- a slot of a value, an element and the length of an array
 abbrev pub slot_on : Value → ℕ → Run Value
-slot_on (Obj o) k = at_place (λ ob. ob.slots) o k
-slot_on v k = stuck
+slot_on (Obj o) k = value_at_place (λ ob. ob.slots) o k
+slot_on v k = sticks
 
-abbrev pub element_on : ObjId → ℕ → Run Value
-element_on o k = at_place (λ ob. ob.elements) o k
+abbrev pub read_element : ObjId → ℕ → Run Value
+read_element o k = value_at_place (λ ob. ob.elements) o k
 
 abbrev pub length_on : ObjId → Run Value
-length_on o = the (object o) >>= λ ob. done (Num (pos (length ob.elements)))
+length_on o = the (object_named o) >>= λ ob. pure (Num (pos (length ob.elements)))
 
 -- a method of an owner is entered on an object, and what comes settles
 abbrev pub enters_on : Setting → (method : ℕ) → Value → List Value → Run Came
-enters_on p m (Obj o) args = enters_owned p m (Obj o) args >>= entered
-enters_on p m v args = stuck
+enters_on p m (Obj o) args = enters_owned p m (Obj o) args >>= calls_frame
+enters_on p m v args = sticks
 
 -- the method that was found is entered on v with the top operands, so many, and what comes settles
 abbrev pub enters_found : Setting → (method : ℕ) → Value → (count : ℕ) → How → Frame → Run Act
@@ -77,12 +77,12 @@ slot_written_if true p o k x = write_slot p o k x
 slot_written_if false p o k x = throws hosts.ReferenceError
 
 -- an object has a property of its own of a text, or is dynamic
-abbrev pub may_take : Setting → ObjId → Span → World → Bool
-may_take p o text w = may_hold (own_place p o text w) (is_dynamic_layout p (object_at w.heap.objects o.0).layout)
+abbrev pub may_take_property : Setting → ObjId → Span → World → Bool
+may_take_property p o text w = may_hold (own_place p o text w) (is_dynamic_layout p (object_at w.heap.objects o.0).layout)
 
 -- a property is written where the name holds the public namespace
 abbrev pub public_written : Setting → ObjId → Name → Value → Run (Unit {0})
-public_written p o name x = if holds_public p.linked name.spaces then write_property p o name.text x else throws hosts.ReferenceError
+public_written p o name x = if name_holds_public p.linked name.spaces then write_property p o name.text x else throws hosts.ReferenceError
 
 -- what is written where no setter is
 abbrev pub value_written : Setting → ObjId → Name → Value → (initial : Bool) → Found → Run (Unit {0})
@@ -90,7 +90,7 @@ value_written p o name x initial (Slot k constant) = slot_written_if (initial ||
 value_written p o name x initial (Method owner m) = throws hosts.ReferenceError
 value_written p o name x initial WrongSide = throws hosts.ReferenceError
 value_written p o name x initial Missing = public_written p o name x
-value_written p o name x initial found = stuck
+value_written p o name x initial found = sticks
 
 -- x is written to what a name found among an object's declared traits: a setter is entered, and what comes settles
 abbrev pub writes_found : Setting → ObjId → Name → Value → (initial : Bool) → Found → How → Frame → Run Act
@@ -112,8 +112,8 @@ calls_found p found v receiver count how f = settled_by how f (call_found p foun
 -- them
 abbrev pub constructs_of : Setting → (under count : ℕ) → Frame → Came → Run Act
 constructs_of p under count f (Got v) = settled_by (Push (count + under)) f (new p v (arguments count f))
-constructs_of p under count f (Calls g) = done (Goes (Above g (waiting (New count) (dropped_under count under f))))
-constructs_of p under count f (Makes g v) = stuck
+constructs_of p under count f (Calls g) = pure (Goes (Above g (waiting (New count) (dropped_under count under f))))
+constructs_of p under count f (Makes g v) = sticks
 
 abbrev pub constructs_getter : Setting → (method : ℕ) → Value → (under count : ℕ) → Frame → Run Act
 constructs_getter p m v under count f = enters_on p m v [] >>= constructs_of p under count f
@@ -146,7 +146,7 @@ constructs_on p v name under count f = reads p v name >>= constructs_of p under 
 
 -- how many parts of a name of the pool the stack has
 abbrev pub parts_at : Setting → ℕ → ℕ
-parts_at p n = parts_count (form_at p n)
+parts_at p n = name_parts_count (name_form_at p n)
 
 abbrev pub holder_under : Setting → (name above : ℕ) → Frame → Value
 holder_under p n above f = operand_at (above + parts_at p n) f
@@ -160,11 +160,11 @@ abbrev pub sets_named : Setting → ℕ → (initial : Bool) → Frame → Run A
 sets_named p n initial f = settled_by (Drop (parts_at p n + 2)) f (named_here p n 1 f >>= λ name. writes_to p (holder_under p n 1 f) name (operand_at 0 f) initial)
 
 -- the arguments are on top; callproplex has no receiver
-abbrev pub receiver_of : (lexical : Bool) → Value → Value
-receiver_of lexical v = if lexical then Null else v
+abbrev pub receiver_under : (lexical : Bool) → Value → Value
+receiver_under lexical v = if lexical then Null else v
 
 abbrev pub calls_named : Setting → ℕ → (count : ℕ) → (lexical : Bool) → How → Frame → Run Act
-calls_named p n count lexical how f = settled_by how f (named_here p n count f >>= λ name. calls_name p (holder_under p n count f) (receiver_of lexical (holder_under p n count f)) name (arguments count f))
+calls_named p n count lexical how f = settled_by how f (named_here p n count f >>= λ name. calls_name p (holder_under p n count f) (receiver_under lexical (holder_under p n count f)) name (arguments count f))
 
 -- `call`, `construct`, and callproperty with its two like, of which one drops what comes
 

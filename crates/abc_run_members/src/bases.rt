@@ -3,9 +3,9 @@ ghost use Rattle.abc_link_names.specs.Bases.{base_named, is_some_class};
 ghost use Rattle.abc_objects.specs.Stands.{IsObjectOrNone, StandsOver};
 ghost use Rattle.abc_objects.specs.Values.{Exists};
 ghost use Rattle.abc_link_names.specs.Parts.{base_part};
-ghost use Rattle.abc_meaning.specs.Newing.{base_prototype as base_prototype_so, is_none, is_that};
+ghost use Rattle.abc_meaning.specs.Newing.{base_prototype as base_prototype_so, is_none, is_same_object};
 ghost use Rattle.abc_run_state.specs.Outer.{Outer, world};
-ghost use Rattle.abc_run_state.specs.Stops.{answer};
+ghost use Rattle.abc_run_state.specs.Stops.{part_outcome};
 ghost use Rattle.abc_meaning.specs.World.{World};
 ghost use Rattle.abc_run_members.specs.Based.{IsBase, IsClassPart, named_of};
 
@@ -60,7 +60,7 @@ pub fn base_of(linked: &Linked, class: u32) -> Base
 
 /// The prototype of a class without a base: null stands for the base, and another value throws.
 fn no_prototype(v: Value) -> Result<Option<ObjId>, Stop>
-    ensures part { (w : World) → is_none v w ≡ answer result w }
+    ensures part { (w : World) → is_none v w ≡ part_outcome result w }
     ensures none { IfOk result (λ o. o ≡ None) }
 {
     match v {
@@ -83,7 +83,8 @@ fn prototype_if(
 ) -> Result<Option<ObjId>, Stop>
     requires over { StandsOver linked.now s.now.arena }
     requires value { Exists linked.now s.now.arena v }
-    ensures part { (out : Outer) → is_that made v (world s.now out) ≡ answer result (world s.now out) }
+    ensures part { (out : Outer)
+        → is_same_object made v (world s.now out) ≡ part_outcome result (world s.now out) }
     ensures there { IfOk result (IsObjectOrNone s.now.arena) }
 {
     let Some(o) = made else {
@@ -109,7 +110,8 @@ pub fn base_prototype(
     requires over { StandsOver linked.now s.now.arena }
     requires base { IsBase linked.now base }
     requires value { Exists linked.now s.now.arena v }
-    ensures part { (out : Outer) → base_prototype_so (named_of base) v (world s.now out) ≡ answer result (world s.now out) }
+    ensures part { (out : Outer)
+        → base_prototype_so (named_of base) v (world s.now out) ≡ part_outcome result (world s.now out) }
     ensures there { IfOk result (IsObjectOrNone s.now.arena) }
 {
     match base {

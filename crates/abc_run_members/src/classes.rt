@@ -1,7 +1,7 @@
 ghost use Rattle.std.specs.Prelude.{◌≡◌, ◌<◌, None, get_or, length};
-ghost use Rattle.abc_frames.specs.Ready.{IsReady};
+ghost use Rattle.abc_frames.specs.Ready.{HasFrameRoom};
 ghost use Rattle.abc_run_state.specs.Outer.{Outer};
-ghost use Rattle.abc_run_members.specs.Scoped.{enters_class, makes_class, makes_unmade};
+ghost use Rattle.abc_run_members.specs.Scoped.{enters_class, makes_class_here, makes_unmade};
 ghost use Rattle.abc_run_calls.specs.Doing.{CanDo};
 ghost use Rattle.abc_run_state.specs.Doing.{Does};
 
@@ -17,7 +17,7 @@ use abc_run_state::{State, Stop, make_class, operand};
 fn enter_class(linked: &Linked, s: &mut State, class: u32, made: ObjId) -> Result<(), Stop>
     ghost out: { Outer }
     requires can { CanDo linked.now out (λ p. enters_class p class made) s.old }
-    requires ready { IsReady 1 1 s.old.frames }
+    requires ready { HasFrameRoom 1 1 s.old.frames }
     requires class { class < length linked.now.file.instances }
     ensures { Does linked.now out (λ p. enters_class p class made) s.old result s.new }
 {
@@ -31,7 +31,7 @@ fn enter_class(linked: &Linked, s: &mut State, class: u32, made: ObjId) -> Resul
 fn make_unmade(linked: &Linked, s: &mut State, class: u32) -> Result<(), Stop>
     ghost out: { Outer }
     requires can { CanDo linked.now out (λ p. makes_unmade p class) s.old }
-    requires ready { IsReady 1 1 s.old.frames }
+    requires ready { HasFrameRoom 1 1 s.old.frames }
     requires class { class < length linked.now.file.instances }
     requires first { get_or s.old.arena.classes class None ≡ None }
     ensures { Does linked.now out (λ p. makes_unmade p class) s.old result s.new }
@@ -46,10 +46,10 @@ fn make_unmade(linked: &Linked, s: &mut State, class: u32) -> Result<(), Stop>
 /// `newclass`: the class is made, once, and then its initializer is run on it; what is pushed at the return is the class object.
 pub fn new_class(linked: &Linked, s: &mut State, class: u32) -> Result<(), Stop>
     ghost out: { Outer }
-    requires can { CanDo linked.now out (λ p. makes_class p class) s.old }
-    requires ready { IsReady 1 1 s.old.frames }
+    requires can { CanDo linked.now out (λ p. makes_class_here p class) s.old }
+    requires ready { HasFrameRoom 1 1 s.old.frames }
     requires class { class < length linked.now.file.instances }
-    ensures { Does linked.now out (λ p. makes_class p class) s.old result s.new }
+    ensures { Does linked.now out (λ p. makes_class_here p class) s.old result s.new }
 {
     match s.arena.class_object(class) {
         Some(_) => Err(Stop::Errs(HostClass::TypeError)),

@@ -1,15 +1,15 @@
 ghost use Rattle.std.specs.Prelude.{◌≡◌, ◌+◌, ◌<◌, ◌≤◌, MatchOption, Some, length, pos};
 ghost use Rattle.abc_heap_values.specs.declared.values.Value.TheVariants.{Num, Obj};
 ghost use Rattle.abc_heap_store.specs.Heap.{elements_of};
-ghost use Rattle.abc_frames.specs.Ready.{IsReady};
+ghost use Rattle.abc_frames.specs.Ready.{HasFrameRoom};
 ghost use Rattle.abc_objects.specs.Stands.{StandsOver};
 ghost use Rattle.abc_objects.specs.Values.{Exists, IsObject};
 ghost use Rattle.abc_run_members.specs.AtOnce.{TellsElement};
 ghost use Rattle.abc_frames.specs.Frame.{newest};
 ghost use Rattle.abc_run_members.specs.Members.{gets_named, parts_at, sets_named};
-ghost use Rattle.abc_run_names.specs.Named.{form_at};
+ghost use Rattle.abc_run_names.specs.Named.{name_form_at};
 ghost use Rattle.abc_run_state.specs.Operands.{operand_at};
-ghost use Rattle.abc_run_state.specs.Outer.{Outer, setting};
+ghost use Rattle.abc_run_state.specs.Outer.{Outer, setting_in};
 ghost use Rattle.abc_run_state.specs.Standing.{IsSet};
 ghost use Rattle.abc_meaning.specs.Setting.{NoText};
 ghost use Rattle.abc_run_state.specs.Doing.{DoesIf};
@@ -40,7 +40,8 @@ fn of_any_text(spaces: Spaces) -> Name
 #[inline(always)]
 fn element_numbered(s: &State, o: ObjId, n: i64) -> Option<u32>
     requires { IsObject s.now.arena o }
-    ensures { MatchOption result (Unit {0}) (λ k. (n ≡ pos k) × (k ≤ 4294967294) × (k < length (elements_of s.now.arena.objects o.0))) }
+    ensures { MatchOption result (Unit {0})
+        (λ k. (n ≡ pos k) × (k ≤ 4294967294) × (k < length (elements_of s.now.arena.objects o.0))) }
 {
     if n < 0 || i64::from(s.arena.length(o)) <= n {
         return None;
@@ -53,7 +54,8 @@ fn element_numbered(s: &State, o: ObjId, n: i64) -> Option<u32>
 fn element_of(linked: &Linked, s: &State, o: ObjId, asked: Value) -> Option<u32>
     requires inside { IsObject s.now.arena o }
     requires asked { Exists linked.now s.now.arena asked }
-    ensures { MatchOption result (Unit {0}) (λ k. (asked ≡ Num (pos k)) × (k ≤ 4294967294) × (k < length (elements_of s.now.arena.objects o.0))) }
+    ensures { MatchOption result (Unit {0})
+        (λ k. (asked ≡ Num (pos k)) × (k ≤ 4294967294) × (k < length (elements_of s.now.arena.objects o.0))) }
 {
     let _ = linked;
     match asked {
@@ -85,8 +87,8 @@ fn element_told(linked: &Linked, s: &State, spaces: Spaces, o: ObjId, asked: Val
 fn gets_element(linked: &Linked, s: &mut State, name: u32, spaces: Spaces, o: ObjId, k: u32) -> bool
     ghost out: { Outer }
     requires set { IsSet linked.now s.old }
-    requires ready { IsReady (parts_at (setting linked.now out) name + 1) 1 s.old.frames }
-    requires form { form_at (setting linked.now out) name ≡ Some (NoText spaces) }
+    requires ready { HasFrameRoom (parts_at (setting_in linked.now out) name + 1) 1 s.old.frames }
+    requires form { name_form_at (setting_in linked.now out) name ≡ Some (NoText spaces) }
     requires holder { operand_at 1 (newest s.old.frames) ≡ Obj o }
     requires inside { IsObject s.old.arena o }
     requires told { TellsElement linked.now s.old.arena spaces o (operand_at 0 (newest s.old.frames)) k }
@@ -110,8 +112,8 @@ fn gets_element(linked: &Linked, s: &mut State, name: u32, spaces: Spaces, o: Ob
 fn gets_numbered(linked: &Linked, s: &mut State, name: u32, spaces: Spaces, o: ObjId) -> bool
     ghost out: { Outer }
     requires set { IsSet linked.now s.old }
-    requires ready { IsReady (parts_at (setting linked.now out) name + 1) 1 s.old.frames }
-    requires form { form_at (setting linked.now out) name ≡ Some (NoText spaces) }
+    requires ready { HasFrameRoom (parts_at (setting_in linked.now out) name + 1) 1 s.old.frames }
+    requires form { name_form_at (setting_in linked.now out) name ≡ Some (NoText spaces) }
     requires holder { operand_at 1 (newest s.old.frames) ≡ Obj o }
     requires inside { IsObject s.old.arena o }
     ensures { DoesIf result linked.now out (λ p. gets_named p name) s.old s.new }
@@ -128,8 +130,8 @@ fn gets_numbered(linked: &Linked, s: &mut State, name: u32, spaces: Spaces, o: O
 fn gets_text(linked: &Linked, s: &mut State, name: u32, spaces: Spaces) -> bool
     ghost out: { Outer }
     requires set { IsSet linked.now s.old }
-    requires ready { IsReady (parts_at (setting linked.now out) name + 1) 1 s.old.frames }
-    requires form { form_at (setting linked.now out) name ≡ Some (NoText spaces) }
+    requires ready { HasFrameRoom (parts_at (setting_in linked.now out) name + 1) 1 s.old.frames }
+    requires form { name_form_at (setting_in linked.now out) name ≡ Some (NoText spaces) }
     ensures { DoesIf result linked.now out (λ p. gets_named p name) s.old s.new }
 {
     let v = operand(&s.frames, 1);
@@ -145,7 +147,7 @@ fn gets_text(linked: &Linked, s: &mut State, name: u32, spaces: Spaces) -> bool
 pub fn get_element_fast(linked: &Linked, s: &mut State, name: u32) -> bool
     ghost out: { Outer }
     requires set { IsSet linked.now s.old }
-    requires ready { IsReady (parts_at (setting linked.now out) name + 1) 1 s.old.frames }
+    requires ready { HasFrameRoom (parts_at (setting_in linked.now out) name + 1) 1 s.old.frames }
     ensures { DoesIf result linked.now out (λ p. gets_named p name) s.old s.new }
 {
     match late_text(linked, name) {
@@ -168,8 +170,8 @@ fn sets_element(
 ) -> bool
     ghost out: { Outer }
     requires set { IsSet linked.now s.old }
-    requires ready { IsReady (parts_at (setting linked.now out) name + 2) 0 s.old.frames }
-    requires form { form_at (setting linked.now out) name ≡ Some (NoText spaces) }
+    requires ready { HasFrameRoom (parts_at (setting_in linked.now out) name + 2) 0 s.old.frames }
+    requires form { name_form_at (setting_in linked.now out) name ≡ Some (NoText spaces) }
     requires holder { operand_at 2 (newest s.old.frames) ≡ Obj o }
     requires inside { IsObject s.old.arena o }
     requires told { TellsElement linked.now s.old.arena spaces o (operand_at 1 (newest s.old.frames)) k }
@@ -203,8 +205,8 @@ fn sets_numbered(
 ) -> bool
     ghost out: { Outer }
     requires set { IsSet linked.now s.old }
-    requires ready { IsReady (parts_at (setting linked.now out) name + 2) 0 s.old.frames }
-    requires form { form_at (setting linked.now out) name ≡ Some (NoText spaces) }
+    requires ready { HasFrameRoom (parts_at (setting_in linked.now out) name + 2) 0 s.old.frames }
+    requires form { name_form_at (setting_in linked.now out) name ≡ Some (NoText spaces) }
     requires holder { operand_at 2 (newest s.old.frames) ≡ Obj o }
     requires inside { IsObject s.old.arena o }
     ensures { DoesIf result linked.now out (λ p. sets_named p name initial) s.old s.new }
@@ -221,8 +223,8 @@ fn sets_numbered(
 fn sets_text(linked: &Linked, s: &mut State, name: u32, spaces: Spaces, initial: bool) -> bool
     ghost out: { Outer }
     requires set { IsSet linked.now s.old }
-    requires ready { IsReady (parts_at (setting linked.now out) name + 2) 0 s.old.frames }
-    requires form { form_at (setting linked.now out) name ≡ Some (NoText spaces) }
+    requires ready { HasFrameRoom (parts_at (setting_in linked.now out) name + 2) 0 s.old.frames }
+    requires form { name_form_at (setting_in linked.now out) name ≡ Some (NoText spaces) }
     ensures { DoesIf result linked.now out (λ p. sets_named p name initial) s.old s.new }
 {
     let v = operand(&s.frames, 2);
@@ -238,7 +240,7 @@ fn sets_text(linked: &Linked, s: &mut State, name: u32, spaces: Spaces, initial:
 pub fn set_element_fast(linked: &Linked, s: &mut State, name: u32, initial: bool) -> bool
     ghost out: { Outer }
     requires set { IsSet linked.now s.old }
-    requires ready { IsReady (parts_at (setting linked.now out) name + 2) 0 s.old.frames }
+    requires ready { HasFrameRoom (parts_at (setting_in linked.now out) name + 2) 0 s.old.frames }
     ensures { DoesIf result linked.now out (λ p. sets_named p name initial) s.old s.new }
 {
     match late_text(linked, name) {

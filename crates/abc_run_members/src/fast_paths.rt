@@ -1,14 +1,14 @@
 ghost use Rattle.std.specs.Prelude.{◌≡◌, ◌+◌, ◌<◌, ◌^◌, Bool, Some, true, Ok};
 ghost use Rattle.abc_heap_store.specs.Texts.{IsText};
-ghost use Rattle.abc_frames.specs.Ready.{IsReady};
+ghost use Rattle.abc_frames.specs.Ready.{HasFrameRoom};
 ghost use Rattle.abc_objects.specs.Stands.{StandsOver};
 ghost use Rattle.abc_objects.specs.Values.{Exists, IsObject};
 ghost use Rattle.abc_frames.specs.Frame.{newest};
 ghost use Rattle.abc_heap_values.specs.declared.values.Value.TheVariants.{Obj};
-ghost use Rattle.abc_run_names.specs.Named.{form_at};
+ghost use Rattle.abc_run_names.specs.Named.{name_form_at};
 ghost use Rattle.abc_run_state.specs.Operands.{operand_at};
-ghost use Rattle.abc_run_state.specs.Outer.{Outer, setting, world};
-ghost use Rattle.abc_run_state.specs.Settling.{given_by, taken_by};
+ghost use Rattle.abc_run_state.specs.Outer.{Outer, setting_in, world};
+ghost use Rattle.abc_run_state.specs.Settling.{given_by_how, taken_by};
 ghost use Rattle.abc_run_state.specs.Standing.{IsSet};
 ghost use Rattle.abc_run_state.specs.declared.state.Left.TheVariants.{Goes};
 ghost use Rattle.abc_meaning.specs.Members.{writes_to};
@@ -36,8 +36,8 @@ use abc_run_state::{How, Left, State, Stop, operand, settle};
 fn gets_on_object(linked: &Linked, s: &mut State, name: u32, wanted: &Name, o: ObjId) -> bool
     ghost out: { Outer }
     requires set { IsSet linked.now s.old }
-    requires ready { IsReady (parts_at (setting linked.now out) name + 1) 1 s.old.frames }
-    requires form { form_at (setting linked.now out) name ≡ Some (Whole wanted.now) }
+    requires ready { HasFrameRoom (parts_at (setting_in linked.now out) name + 1) 1 s.old.frames }
+    requires form { name_form_at (setting_in linked.now out) name ≡ Some (Whole wanted.now) }
     requires text { IsText linked.now.file.strings s.old.arena wanted.now.text }
     requires holder { operand_at 0 (newest s.old.frames) ≡ Obj o }
     requires inside { IsObject s.old.arena o }
@@ -59,8 +59,8 @@ fn gets_on_object(linked: &Linked, s: &mut State, name: u32, wanted: &Name, o: O
 fn gets_whole(linked: &Linked, s: &mut State, name: u32, wanted: &Name) -> bool
     ghost out: { Outer }
     requires set { IsSet linked.now s.old }
-    requires ready { IsReady (parts_at (setting linked.now out) name + 1) 1 s.old.frames }
-    requires form { form_at (setting linked.now out) name ≡ Some (Whole wanted.now) }
+    requires ready { HasFrameRoom (parts_at (setting_in linked.now out) name + 1) 1 s.old.frames }
+    requires form { name_form_at (setting_in linked.now out) name ≡ Some (Whole wanted.now) }
     requires text { IsText linked.now.file.strings s.old.arena wanted.now.text }
     ensures { DoesIf result linked.now out (λ p. gets_named p name) s.old s.new }
 {
@@ -77,7 +77,7 @@ fn gets_whole(linked: &Linked, s: &mut State, name: u32, wanted: &Name) -> bool
 pub fn get_property_fast(linked: &Linked, s: &mut State, name: u32) -> bool
     ghost out: { Outer }
     requires set { IsSet linked.now s.old }
-    requires ready { IsReady (parts_at (setting linked.now out) name + 1) 1 s.old.frames }
+    requires ready { HasFrameRoom (parts_at (setting_in linked.now out) name + 1) 1 s.old.frames }
     ensures { DoesIf result linked.now out (λ p. gets_named p name) s.old s.new }
 {
     match whole_name(linked, name) {
@@ -92,7 +92,9 @@ pub fn get_property_fast(linked: &Linked, s: &mut State, name: u32) -> bool
 fn takes_own(linked: &Linked, s: &State, o: ObjId, name: &Name) -> bool
     requires over { StandsOver linked.now s.now.arena }
     requires inside { IsObject s.now.arena o }
-    ensures { result ≡ true → (out : Outer) (x : Value) (initial : Bool) → writes_to (setting linked.now out) (Obj o) name.now x initial (world s.now out) ≡ puts_own (setting linked.now out) o name.now.text x (world s.now out) }
+    ensures { result ≡ true → (out : Outer) (x : Value) (initial : Bool)
+        → writes_to (setting_in linked.now out) (Obj o) name.now x initial (world s.now out)
+        ≡ puts_own (setting_in linked.now out) o name.now.text x (world s.now out) }
 {
     if !is_plain(linked, &s.arena, o, name) {
         return false;
@@ -109,7 +111,7 @@ fn takes_own(linked: &Linked, s: &State, o: ObjId, name: &Name) -> bool
 fn puts(linked: &Linked, s: &mut State, o: ObjId, text: Span, x: Value) -> bool
     ghost out: { Outer }
     requires set { IsSet linked.now s.old }
-    requires ready { IsReady 2 0 s.old.frames }
+    requires ready { HasFrameRoom 2 0 s.old.frames }
     requires inside { IsObject s.old.arena o }
     requires text { IsText linked.now.file.strings s.old.arena text }
     requires value { Exists linked.now s.old.arena x }
@@ -130,7 +132,7 @@ fn puts(linked: &Linked, s: &mut State, o: ObjId, text: Span, x: Value) -> bool
 fn puts_value(linked: &Linked, s: &mut State, o: ObjId, text: Span) -> bool
     ghost out: { Outer }
     requires set { IsSet linked.now s.old }
-    requires ready { IsReady 2 0 s.old.frames }
+    requires ready { HasFrameRoom 2 0 s.old.frames }
     requires inside { IsObject s.old.arena o }
     requires text { IsText linked.now.file.strings s.old.arena text }
     ensures { DoesIf result linked.now out (λ p. puts_top p o text) s.old s.new }
@@ -156,7 +158,7 @@ fn again(text: Span) -> Span
 fn puts_at_once(linked: &Linked, s: &mut State, o: ObjId, text: Span) -> bool
     ghost out: { Outer }
     requires set { IsSet linked.now s.old }
-    requires ready { IsReady 2 0 s.old.frames }
+    requires ready { HasFrameRoom 2 0 s.old.frames }
     requires inside { IsObject s.old.arena o }
     requires text { IsText linked.now.file.strings s.old.arena text }
     ensures { DoesIf result linked.now out (λ p. puts_top p o text) s.old s.new }
@@ -181,8 +183,8 @@ fn sets_on_object(
 ) -> bool
     ghost out: { Outer }
     requires set { IsSet linked.now s.old }
-    requires ready { IsReady (parts_at (setting linked.now out) name + 2) 0 s.old.frames }
-    requires form { form_at (setting linked.now out) name ≡ Some (Whole wanted.now) }
+    requires ready { HasFrameRoom (parts_at (setting_in linked.now out) name + 2) 0 s.old.frames }
+    requires form { name_form_at (setting_in linked.now out) name ≡ Some (Whole wanted.now) }
     requires text { IsText linked.now.file.strings s.old.arena wanted.now.text }
     requires holder { operand_at 1 (newest s.old.frames) ≡ Obj o }
     requires inside { IsObject s.old.arena o }
@@ -202,8 +204,8 @@ fn sets_on_object(
 fn sets_whole(linked: &Linked, s: &mut State, name: u32, wanted: &Name, initial: bool) -> bool
     ghost out: { Outer }
     requires set { IsSet linked.now s.old }
-    requires ready { IsReady (parts_at (setting linked.now out) name + 2) 0 s.old.frames }
-    requires form { form_at (setting linked.now out) name ≡ Some (Whole wanted.now) }
+    requires ready { HasFrameRoom (parts_at (setting_in linked.now out) name + 2) 0 s.old.frames }
+    requires form { name_form_at (setting_in linked.now out) name ≡ Some (Whole wanted.now) }
     requires text { IsText linked.now.file.strings s.old.arena wanted.now.text }
     ensures { DoesIf result linked.now out (λ p. sets_named p name initial) s.old s.new }
 {
@@ -221,7 +223,7 @@ fn sets_whole(linked: &Linked, s: &mut State, name: u32, wanted: &Name, initial:
 pub fn set_property_fast(linked: &Linked, s: &mut State, name: u32, initial: bool) -> bool
     ghost out: { Outer }
     requires set { IsSet linked.now s.old }
-    requires ready { IsReady (parts_at (setting linked.now out) name + 2) 0 s.old.frames }
+    requires ready { HasFrameRoom (parts_at (setting_in linked.now out) name + 2) 0 s.old.frames }
     ensures { DoesIf result linked.now out (λ p. sets_named p name initial) s.old s.new }
 {
     match whole_name(linked, name) {
@@ -246,15 +248,17 @@ fn call_on_object(
 ) -> bool
     ghost out: { Outer }
     requires can { CanDo linked.now out (λ p. calls_named p name count lexical how) s.old }
-    requires ready { IsReady (count + parts_at (setting linked.now out) name + 1) (given_by how) s.old.frames }
+    requires ready { HasFrameRoom (count + parts_at (setting_in linked.now out) name + 1) (given_by_how how)
+        s.old.frames }
     requires count { count < 2 ^ 30 }
-    requires how { taken_by how ≡ count + parts_at (setting linked.now out) name + 1 }
-    requires form { form_at (setting linked.now out) name ≡ Some (Whole wanted.now) }
+    requires how { taken_by how ≡ count + parts_at (setting_in linked.now out) name + 1 }
+    requires form { name_form_at (setting_in linked.now out) name ≡ Some (Whole wanted.now) }
     requires text { IsText linked.now.file.strings s.old.arena wanted.now.text }
     requires holder { operand_at count (newest s.old.frames) ≡ Obj o }
     requires inside { IsObject s.old.arena o }
     requires none { left.old ≡ Ok Goes }
-    ensures { Dispatches linked.now out (λ p. calls_named p name count lexical how) s.old result left.new s.new }
+    ensures { Dispatches linked.now out (λ p. calls_named p name count lexical how) s.old result left.new
+        s.new }
 {
     match first_method(linked, &s.arena, o, wanted) {
         Some(method) => call_object_method(linked, s, method, o, count, how, left),
@@ -276,13 +280,15 @@ pub(crate) fn call_whole(
 ) -> bool
     ghost out: { Outer }
     requires can { CanDo linked.now out (λ p. calls_named p name count lexical how) s.old }
-    requires ready { IsReady (count + parts_at (setting linked.now out) name + 1) (given_by how) s.old.frames }
+    requires ready { HasFrameRoom (count + parts_at (setting_in linked.now out) name + 1) (given_by_how how)
+        s.old.frames }
     requires count { count < 2 ^ 30 }
-    requires how { taken_by how ≡ count + parts_at (setting linked.now out) name + 1 }
-    requires form { form_at (setting linked.now out) name ≡ Some (Whole wanted.now) }
+    requires how { taken_by how ≡ count + parts_at (setting_in linked.now out) name + 1 }
+    requires form { name_form_at (setting_in linked.now out) name ≡ Some (Whole wanted.now) }
     requires text { IsText linked.now.file.strings s.old.arena wanted.now.text }
     requires none { left.old ≡ Ok Goes }
-    ensures { Dispatches linked.now out (λ p. calls_named p name count lexical how) s.old result left.new s.new }
+    ensures { Dispatches linked.now out (λ p. calls_named p name count lexical how) s.old result left.new
+        s.new }
 {
     let v = operand(&s.frames, count);
     match v {

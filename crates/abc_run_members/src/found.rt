@@ -1,10 +1,10 @@
 ghost use Rattle.std.specs.Prelude.{◌≡◌, ◌+◌, ◌≤◌, ◌<◌, ◌^◌, Ok};
 ghost use Rattle.abc_heap_values.specs.declared.values.Value.TheVariants.{Obj};
-ghost use Rattle.abc_frames.specs.Ready.{IsReady};
+ghost use Rattle.abc_frames.specs.Ready.{HasFrameRoom};
 ghost use Rattle.abc_objects.specs.Values.{Exists};
 ghost use Rattle.abc_frames.specs.Frame.{newest};
-ghost use Rattle.abc_run_state.specs.Outer.{Outer, setting, world};
-ghost use Rattle.abc_run_state.specs.Settling.{given_by, taken_by};
+ghost use Rattle.abc_run_state.specs.Outer.{Outer, setting_in, world};
+ghost use Rattle.abc_run_state.specs.Settling.{given_by_how, taken_by};
 ghost use Rattle.abc_run_state.specs.Standing.{IsSet};
 ghost use Rattle.abc_run_state.specs.Stops.{IsOpen};
 ghost use Rattle.abc_run_state.specs.declared.state.Left.TheVariants.{Goes};
@@ -33,7 +33,7 @@ pub(crate) fn enter_on(
 ) -> Result<(), Stop>
     ghost out: { Outer }
     requires can { CanDo linked.now out (λ p. enters_found p method v count how) s.old }
-    requires ready { IsReady (taken_by how) (given_by how) s.old.frames }
+    requires ready { HasFrameRoom (taken_by how) (given_by_how how) s.old.frames }
     requires count { count ≤ taken_by how }
     ensures { Does linked.now out (λ p. enters_found p method v count how) s.old result s.new }
 {
@@ -46,10 +46,11 @@ pub(crate) fn enter_on(
 fn read_value(linked: &Linked, s: &mut State, found: Found, v: Value, how: How) -> Result<(), Stop>
     ghost out: { Outer }
     requires set { IsSet linked.now s.old }
-    requires ready { IsReady (taken_by how) (given_by how) s.old.frames }
+    requires ready { HasFrameRoom (taken_by how) (given_by_how how) s.old.frames }
     requires value { Exists linked.now s.old.arena v }
     requires found { IsFoundThere linked.now s.old.arena found }
-    requires free { IsOpen (reads_value (setting linked.now out) found v how (newest s.old.frames) (world s.old out)) }
+    requires free { IsOpen
+        (reads_value (setting_in linked.now out) found v how (newest s.old.frames) (world s.old out)) }
     ensures { Does linked.now out (λ p. reads_value p found v how) s.old result s.new }
 {
     let value = value_of(linked, s, found, v)?;
@@ -68,7 +69,7 @@ pub fn read_found(
 ) -> Result<(), Stop>
     ghost out: { Outer }
     requires can { CanDo linked.now out (λ p. reads_found p found v how) s.old }
-    requires ready { IsReady (taken_by how) (given_by how) s.old.frames }
+    requires ready { HasFrameRoom (taken_by how) (given_by_how how) s.old.frames }
     requires value { Exists linked.now s.old.arena v }
     requires found { IsFoundThere linked.now s.old.arena found }
     ensures { Does linked.now out (λ p. reads_found p found v how) s.old result s.new }
@@ -91,7 +92,7 @@ fn call_method(
 ) -> Result<Left, Stop>
     ghost out: { Outer }
     requires can { CanDo linked.now out (λ p. enters_found p method v count how) s.old }
-    requires ready { IsReady (taken_by how) (given_by how) s.old.frames }
+    requires ready { HasFrameRoom (taken_by how) (given_by_how how) s.old.frames }
     requires count { count ≤ taken_by how }
     ensures { DoesOrLeaves linked.now out (λ p. enters_found p method v count how) s.old result s.new }
 {
@@ -112,8 +113,9 @@ fn enters_object(
 ) -> bool
     ghost out: { Outer }
     requires set { IsSet linked.now s.old }
-    requires ready { IsReady (taken_by how) (given_by how) s.old.frames }
-    requires free { IsOpen (enters_found (setting linked.now out) method (Obj o) count how (newest s.old.frames) (world s.old out)) }
+    requires ready { HasFrameRoom (taken_by how) (given_by_how how) s.old.frames }
+    requires free { IsOpen (enters_found (setting_in linked.now out) method (Obj o) count how
+        (newest s.old.frames) (world s.old out)) }
     ensures { DoesIf result linked.now out (λ p. enters_found p method (Obj o) count how) s.old s.new }
 {
     let (taken, wait) = waiting(how);
@@ -134,10 +136,11 @@ fn enter_slowly(
 ) -> bool
     ghost out: { Outer }
     requires can { CanDo linked.now out (λ p. enters_found p method (Obj o) count how) s.old }
-    requires ready { IsReady (taken_by how) (given_by how) s.old.frames }
+    requires ready { HasFrameRoom (taken_by how) (given_by_how how) s.old.frames }
     requires count { count ≤ taken_by how }
     requires none { left.old ≡ Ok Goes }
-    ensures { Dispatches linked.now out (λ p. enters_found p method (Obj o) count how) s.old result left.new s.new }
+    ensures { Dispatches linked.now out (λ p. enters_found p method (Obj o) count how) s.old result left.new
+        s.new }
 {
     goes(enter_on(linked, s, method, Value::Obj(o), count, how), left)
 }
@@ -155,10 +158,11 @@ pub fn call_object_method(
 ) -> bool
     ghost out: { Outer }
     requires can { CanDo linked.now out (λ p. enters_found p method (Obj o) count how) s.old }
-    requires ready { IsReady (taken_by how) (given_by how) s.old.frames }
+    requires ready { HasFrameRoom (taken_by how) (given_by_how how) s.old.frames }
     requires count { count ≤ taken_by how }
     requires none { left.old ≡ Ok Goes }
-    ensures { Dispatches linked.now out (λ p. enters_found p method (Obj o) count how) s.old result left.new s.new }
+    ensures { Dispatches linked.now out (λ p. enters_found p method (Obj o) count how) s.old result left.new
+        s.new }
 {
     if enters_object(linked, s, method, o, count, how) {
         return true;
@@ -178,11 +182,12 @@ fn call_value_found(
 ) -> Result<Left, Stop>
     ghost out: { Outer }
     requires can { CanDo linked.now out (λ p. calls_value_found p found v receiver count how) s.old }
-    requires ready { IsReady (taken_by how) (given_by how) s.old.frames }
+    requires ready { HasFrameRoom (taken_by how) (given_by_how how) s.old.frames }
     requires count { count ≤ taken_by how }
     requires value { Exists linked.now s.old.arena v }
     requires found { IsFoundThere linked.now s.old.arena found }
-    ensures { DoesOrLeaves linked.now out (λ p. calls_value_found p found v receiver count how) s.old result s.new }
+    ensures { DoesOrLeaves linked.now out (λ p. calls_value_found p found v receiver count how) s.old result
+        s.new }
 {
     let callee = value_found(linked, s, found, v)?;
     call(linked, s, callee, receiver, count, how)
@@ -201,7 +206,7 @@ pub fn call_found(
 ) -> Result<Left, Stop>
     ghost out: { Outer }
     requires can { CanDo linked.now out (λ p. calls_found p found v receiver count how) s.old }
-    requires ready { IsReady (taken_by how) (given_by how) s.old.frames }
+    requires ready { HasFrameRoom (taken_by how) (given_by_how how) s.old.frames }
     requires count { count ≤ taken_by how }
     requires value { Exists linked.now s.old.arena v }
     requires found { IsFoundThere linked.now s.old.arena found }
@@ -225,7 +230,7 @@ fn construct_getter(
 ) -> Result<(), Stop>
     ghost out: { Outer }
     requires can { CanDo linked.now out (λ p. constructs_getter p method v under count) s.old }
-    requires ready { IsReady (count + under) 1 s.old.frames }
+    requires ready { HasFrameRoom (count + under) 1 s.old.frames }
     ensures { Does linked.now out (λ p. constructs_getter p method v under count) s.old result s.new }
 {
     s.frames.drop_under(count, under);
@@ -243,7 +248,7 @@ fn construct_value(
 ) -> Result<(), Stop>
     ghost out: { Outer }
     requires can { CanDo linked.now out (λ p. constructs_value p found v under count) s.old }
-    requires ready { IsReady (count + under) 1 s.old.frames }
+    requires ready { HasFrameRoom (count + under) 1 s.old.frames }
     requires few { count + under < 2 ^ 32 }
     requires value { Exists linked.now s.old.arena v }
     requires found { IsFoundThere linked.now s.old.arena found }
@@ -264,7 +269,7 @@ pub(crate) fn construct_found(
 ) -> Result<(), Stop>
     ghost out: { Outer }
     requires can { CanDo linked.now out (λ p. constructs_found p found v under count) s.old }
-    requires ready { IsReady (count + under) 1 s.old.frames }
+    requires ready { HasFrameRoom (count + under) 1 s.old.frames }
     requires few { count + under < 2 ^ 32 }
     requires value { Exists linked.now s.old.arena v }
     requires found { IsFoundThere linked.now s.old.arena found }

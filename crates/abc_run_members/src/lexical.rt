@@ -1,10 +1,10 @@
 ghost use Rattle.std.specs.Prelude.{◌≡◌, length};
 ghost use Rattle.abc_heap_store.specs.Texts.{IsText};
-ghost use Rattle.abc_frames.specs.Ready.{IsReady};
+ghost use Rattle.abc_frames.specs.Ready.{HasFrameRoom};
 ghost use Rattle.abc_run_members.specs.Members.{parts_at};
-ghost use Rattle.abc_run_state.specs.Outer.{Outer, setting};
+ghost use Rattle.abc_run_state.specs.Outer.{Outer, setting_in};
 ghost use Rattle.abc_run_members.specs.Found.{IsScopeThere};
-ghost use Rattle.abc_run_members.specs.Supers.{finds_and_reads, reads_in};
+ghost use Rattle.abc_run_members.specs.Supers.{find_and_read, reads_in};
 ghost use Rattle.abc_run_calls.specs.Doing.{CanDo};
 ghost use Rattle.abc_run_state.specs.Doing.{Does};
 
@@ -28,7 +28,7 @@ fn read_in(
 ) -> Result<(), Stop>
     ghost out: { Outer }
     requires can { CanDo linked.now out (λ p. reads_in p found name.now parts) s.old }
-    requires ready { IsReady parts 1 s.old.frames }
+    requires ready { HasFrameRoom parts 1 s.old.frames }
     requires started { length s.old.started ≡ length linked.now.file.scripts }
     requires found { IsScopeThere linked.now s.old.arena found }
     requires name { IsText linked.now.file.strings s.old.arena name.now.text }
@@ -44,10 +44,10 @@ fn read_in(
 /// `getlex`.
 pub fn get_lexical(linked: &Linked, s: &mut State, name: u32) -> Result<(), Stop>
     ghost out: { Outer }
-    requires can { CanDo linked.now out (λ p. finds_and_reads p name) s.old }
-    requires ready { IsReady (parts_at (setting linked.now out) name) 1 s.old.frames }
+    requires can { CanDo linked.now out (λ p. find_and_read p name) s.old }
+    requires ready { HasFrameRoom (parts_at (setting_in linked.now out) name) 1 s.old.frames }
     requires started { length s.old.started ≡ length linked.now.file.scripts }
-    ensures { Does linked.now out (λ p. finds_and_reads p name) s.old result s.new }
+    ensures { Does linked.now out (λ p. find_and_read p name) s.old result s.new }
 {
     let parts = parts_of(linked, name);
     let wanted = name_of(linked, s, name, 0)?;

@@ -1,12 +1,12 @@
 ghost use Rattle.std.specs.Prelude.{◌+◌, ◌<◌, ◌^◌, length};
-ghost use Rattle.abc_frames.specs.Ready.{IsReady};
+ghost use Rattle.abc_frames.specs.Ready.{HasFrameRoom};
 ghost use Rattle.abc_objects.specs.Values.{IsObject};
 ghost use Rattle.abc_run_calls.specs.Calls.{settled_by};
 ghost use Rattle.abc_run_state.specs.Outer.{Outer};
 ghost use Rattle.abc_run_state.specs.Standing.{IsSet};
 ghost use Rattle.abc_run_state.specs.declared.state.How.TheVariants.{Drop};
 ghost use Rattle.abc_run_members.specs.Based.{IsBase, named_of};
-ghost use Rattle.abc_run_members.specs.Supers.{constructs_super, runs_base, tells_base};
+ghost use Rattle.abc_run_members.specs.Supers.{super_construct, base_run, tells_base};
 ghost use Rattle.abc_run_calls.specs.Doing.{CanDo};
 ghost use Rattle.abc_run_state.specs.Doing.{Does};
 
@@ -29,7 +29,7 @@ fn tell_base(
 ) -> Result<(), Stop>
     ghost out: { Outer }
     requires set { IsSet linked.now s.old }
-    requires ready { IsReady (count + 1) 0 s.old.frames }
+    requires ready { HasFrameRoom (count + 1) 0 s.old.frames }
     requires count { count < 2 ^ 30 }
     requires inside { IsObject s.old.arena o }
     ensures { Does linked.now out (λ p. tells_base p o class count) s.old result s.new }
@@ -49,12 +49,14 @@ fn construct_base(
     count: u32,
 ) -> Result<(), Stop>
     ghost out: { Outer }
-    requires can { CanDo linked.now out (λ p f. settled_by (Drop (count + 1)) f (runs_base p o count f (named_of base))) s.old }
-    requires ready { IsReady (count + 1) 0 s.old.frames }
+    requires can { CanDo linked.now out
+        (λ p f. settled_by (Drop (count + 1)) f (base_run p o count f (named_of base))) s.old }
+    requires ready { HasFrameRoom (count + 1) 0 s.old.frames }
     requires count { count < 2 ^ 30 }
     requires inside { IsObject s.old.arena o }
     requires base { IsBase linked.now base }
-    ensures { Does linked.now out (λ p f. settled_by (Drop (count + 1)) f (runs_base p o count f (named_of base))) s.old result s.new }
+    ensures { Does linked.now out
+        (λ p f. settled_by (Drop (count + 1)) f (base_run p o count f (named_of base))) s.old result s.new }
 {
     match base {
         Base::Class(class) => {
@@ -71,11 +73,11 @@ fn construct_base(
 /// the host has none, and takes a message.
 pub fn construct_super(linked: &Linked, s: &mut State, class: u32, count: u32) -> Result<(), Stop>
     ghost out: { Outer }
-    requires can { CanDo linked.now out (λ p. constructs_super p class count) s.old }
-    requires ready { IsReady (count + 1) 0 s.old.frames }
+    requires can { CanDo linked.now out (λ p. super_construct p class count) s.old }
+    requires ready { HasFrameRoom (count + 1) 0 s.old.frames }
     requires count { count < 2 ^ 30 }
     requires class { class < length linked.now.file.instances }
-    ensures { Does linked.now out (λ p. constructs_super p class count) s.old result s.new }
+    ensures { Does linked.now out (λ p. super_construct p class count) s.old result s.new }
 {
     let v = operand(&s.frames, count);
     let o = receiver(v)?;

@@ -1,15 +1,15 @@
 ghost use Rattle.std.specs.Prelude.{◌≡◌, ◌+◌, ◌≤◌, ◌<◌, ◌^◌};
 ghost use Rattle.abc_heap_store.specs.Texts.{IsText};
-ghost use Rattle.abc_frames.specs.Ready.{IsReady};
+ghost use Rattle.abc_frames.specs.Ready.{HasFrameRoom};
 ghost use Rattle.abc_objects.specs.Values.{Exists, IsObject};
 ghost use Rattle.abc_frames.specs.Frame.{newest};
 ghost use Rattle.abc_heap_values.specs.declared.values.Value.TheVariants.{Obj};
 ghost use Rattle.abc_run_state.specs.Operands.{operand_at};
 ghost use Rattle.abc_run_state.specs.Outer.{Outer};
-ghost use Rattle.abc_run_state.specs.Settling.{given_by, taken_by};
+ghost use Rattle.abc_run_state.specs.Settling.{given_by_how, taken_by};
 ghost use Rattle.abc_run_members.specs.Members.{IsFoundThere, calls_on, constructs_on, reads_on, writes_on};
 ghost use Rattle.abc_objects.specs.Stands.{StandsOver};
-ghost use Rattle.abc_lookup.specs.NoTraits.{IsFirst};
+ghost use Rattle.abc_lookup.specs.NoTraits.{IsFoundFirst};
 ghost use Rattle.abc_objects.specs.Searches.{found_on};
 ghost use Rattle.abc_objects.specs.declared.found.Want.TheVariants.{Read};
 ghost use Rattle.abc_run_calls.specs.Doing.{CanDo, DoesOrLeaves};
@@ -45,7 +45,7 @@ pub fn find_first_on(linked: &Linked, s: &State, o: ObjId, name: &Name) -> Found
     requires over { StandsOver linked.now s.now.arena }
     requires inside { IsObject s.now.arena o }
     requires name { IsText linked.now.file.strings s.now.arena name.now.text }
-    ensures first { IsFirst linked.now s.now.arena o name.now result }
+    ensures first { IsFoundFirst linked.now s.now.arena o name.now result }
     ensures there { IsFoundThere linked.now s.now.arena result }
 {
     answer_is_the_first();
@@ -64,7 +64,7 @@ fn read_searching(
 ) -> Result<(), Stop>
     ghost out: { Outer }
     requires can { CanDo linked.now out (λ p. reads_on p v name.now how) s.old }
-    requires ready { IsReady (taken_by how) (given_by how) s.old.frames }
+    requires ready { HasFrameRoom (taken_by how) (given_by_how how) s.old.frames }
     requires value { Exists linked.now s.old.arena v }
     requires name { IsText linked.now.file.strings s.old.arena name.now.text }
     ensures { Does linked.now out (λ p. reads_on p v name.now how) s.old result s.new }
@@ -96,7 +96,7 @@ pub fn read_on_object(
 ) -> Result<(), Stop>
     ghost out: { Outer }
     requires can { CanDo linked.now out (λ p. reads_on p (Obj o) name.now how) s.old }
-    requires ready { IsReady (taken_by how) (given_by how) s.old.frames }
+    requires ready { HasFrameRoom (taken_by how) (given_by_how how) s.old.frames }
     requires inside { IsObject s.old.arena o }
     requires name { IsText linked.now.file.strings s.old.arena name.now.text }
     ensures { Does linked.now out (λ p. reads_on p (Obj o) name.now how) s.old result s.new }
@@ -114,7 +114,7 @@ pub fn read_on_object(
 pub fn read_on(linked: &Linked, s: &mut State, v: Value, name: &Name, how: How) -> Result<(), Stop>
     ghost out: { Outer }
     requires can { CanDo linked.now out (λ p. reads_on p v name.now how) s.old }
-    requires ready { IsReady (taken_by how) (given_by how) s.old.frames }
+    requires ready { HasFrameRoom (taken_by how) (given_by_how how) s.old.frames }
     requires value { Exists linked.now s.old.arena v }
     requires name { IsText linked.now.file.strings s.old.arena name.now.text }
     ensures { Does linked.now out (λ p. reads_on p v name.now how) s.old result s.new }
@@ -138,7 +138,7 @@ fn write_searching(
 ) -> Result<(), Stop>
     ghost out: { Outer }
     requires can { CanDo linked.now out (λ p. writes_on p (Obj o) name.now x initial how) s.old }
-    requires ready { IsReady (taken_by how) (given_by how) s.old.frames }
+    requires ready { HasFrameRoom (taken_by how) (given_by_how how) s.old.frames }
     requires one { 1 ≤ taken_by how }
     requires inside { IsObject s.old.arena o }
     requires name { IsText linked.now.file.strings s.old.arena name.now.text }
@@ -165,7 +165,7 @@ pub fn write_on_object(
 ) -> Result<(), Stop>
     ghost out: { Outer }
     requires can { CanDo linked.now out (λ p. writes_on p (Obj o) name.now x initial how) s.old }
-    requires ready { IsReady (taken_by how) (given_by how) s.old.frames }
+    requires ready { HasFrameRoom (taken_by how) (given_by_how how) s.old.frames }
     requires one { 1 ≤ taken_by how }
     requires inside { IsObject s.old.arena o }
     requires name { IsText linked.now.file.strings s.old.arena name.now.text }
@@ -197,7 +197,7 @@ pub fn write_on(
 ) -> Result<(), Stop>
     ghost out: { Outer }
     requires can { CanDo linked.now out (λ p. writes_on p v name.now x initial how) s.old }
-    requires ready { IsReady (taken_by how) (given_by how) s.old.frames }
+    requires ready { HasFrameRoom (taken_by how) (given_by_how how) s.old.frames }
     requires one { 1 ≤ taken_by how }
     requires holder { Exists linked.now s.old.arena v }
     requires name { IsText linked.now.file.strings s.old.arena name.now.text }
@@ -225,7 +225,7 @@ pub fn call_on(
 ) -> Result<Left, Stop>
     ghost out: { Outer }
     requires can { CanDo linked.now out (λ p. calls_on p v receiver name.now count how) s.old }
-    requires ready { IsReady (taken_by how) (given_by how) s.old.frames }
+    requires ready { HasFrameRoom (taken_by how) (given_by_how how) s.old.frames }
     requires count { count ≤ taken_by how }
     requires value { Exists linked.now s.old.arena v }
     requires name { IsText linked.now.file.strings s.old.arena name.now.text }
@@ -247,7 +247,7 @@ pub fn construct_on(
 ) -> Result<(), Stop>
     ghost out: { Outer }
     requires can { CanDo linked.now out (λ p. constructs_on p v name.now under count) s.old }
-    requires ready { IsReady (count + under) 1 s.old.frames }
+    requires ready { HasFrameRoom (count + under) 1 s.old.frames }
     requires few { count + under < 2 ^ 32 }
     requires value { Exists linked.now s.old.arena v }
     requires name { IsText linked.now.file.strings s.old.arena name.now.text }

@@ -1,8 +1,8 @@
 ghost use Rattle.std.specs.Prelude.{◌≡◌, ◌+◌, ◌<◌, ◌^◌, Ok};
-ghost use Rattle.abc_frames.specs.Ready.{IsReady};
+ghost use Rattle.abc_frames.specs.Ready.{HasFrameRoom};
 ghost use Rattle.abc_run_members.specs.AtOnce.{how_for};
-ghost use Rattle.abc_run_state.specs.Outer.{Outer, setting};
-ghost use Rattle.abc_run_state.specs.Settling.{given_by};
+ghost use Rattle.abc_run_state.specs.Outer.{Outer, setting_in};
+ghost use Rattle.abc_run_state.specs.Settling.{given_by_how};
 ghost use Rattle.abc_run_state.specs.declared.state.Left.TheVariants.{Goes};
 ghost use Rattle.abc_run_members.specs.Members.{calls_operand, calls_property, constructs_named, constructs_operand, parts_at};
 ghost use Rattle.abc_run_calls.specs.Doing.{CanDo, Dispatches, DoesOrLeaves};
@@ -20,7 +20,7 @@ use abc_run_state::{How, Left, State, Stop, operand};
 pub fn call_value(linked: &Linked, s: &mut State, count: u32) -> Result<Left, Stop>
     ghost out: { Outer }
     requires can { CanDo linked.now out (λ p. calls_operand p count) s.old }
-    requires ready { IsReady (count + 2) 1 s.old.frames }
+    requires ready { HasFrameRoom (count + 2) 1 s.old.frames }
     requires count { count < 2 ^ 30 }
     ensures { DoesOrLeaves linked.now out (λ p. calls_operand p count) s.old result s.new }
 {
@@ -55,11 +55,12 @@ pub fn call_property(
 ) -> bool
     ghost out: { Outer }
     requires can { CanDo linked.now out (λ p. calls_property p name count lexical drops) s.old }
-    requires ready { let taken = count + parts_at (setting linked.now out) name + 1 in
-        IsReady taken (given_by (how_for drops taken)) s.old.frames }
+    requires ready { let taken = count + parts_at (setting_in linked.now out) name + 1 in
+        HasFrameRoom taken (given_by_how (how_for drops taken)) s.old.frames }
     requires count { count < 2 ^ 30 }
     requires none { left.old ≡ Ok Goes }
-    ensures { Dispatches linked.now out (λ p. calls_property p name count lexical drops) s.old result left.new s.new }
+    ensures { Dispatches linked.now out (λ p. calls_property p name count lexical drops) s.old result left.new
+        s.new }
 {
     match whole_name(linked, name) {
         Some(wanted) => {
@@ -77,7 +78,7 @@ pub fn call_property(
 pub fn construct(linked: &Linked, s: &mut State, count: u32) -> Result<(), Stop>
     ghost out: { Outer }
     requires can { CanDo linked.now out (λ p. constructs_operand p count) s.old }
-    requires ready { IsReady (count + 1) 1 s.old.frames }
+    requires ready { HasFrameRoom (count + 1) 1 s.old.frames }
     requires count { count < 2 ^ 30 }
     ensures { Does linked.now out (λ p. constructs_operand p count) s.old result s.new }
 {
@@ -89,7 +90,7 @@ pub fn construct(linked: &Linked, s: &mut State, count: u32) -> Result<(), Stop>
 pub fn construct_property(linked: &Linked, s: &mut State, name: u32, count: u32) -> Result<(), Stop>
     ghost out: { Outer }
     requires can { CanDo linked.now out (λ p. constructs_named p name count) s.old }
-    requires ready { IsReady (count + parts_at (setting linked.now out) name + 1) 1 s.old.frames }
+    requires ready { HasFrameRoom (count + parts_at (setting_in linked.now out) name + 1) 1 s.old.frames }
     requires count { count < 2 ^ 30 }
     ensures { Does linked.now out (λ p. constructs_named p name count) s.old result s.new }
 {

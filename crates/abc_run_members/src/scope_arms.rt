@@ -1,9 +1,9 @@
 ghost use Rattle.std.specs.Prelude.{◌≡◌, length};
-ghost use Rattle.abc_frames.specs.Ready.{IsReady};
-ghost use Rattle.abc_run_names.specs.Named.{form_at, parts_count};
-ghost use Rattle.abc_run_state.specs.Outer.{Outer, setting};
+ghost use Rattle.abc_frames.specs.Ready.{HasFrameRoom};
+ghost use Rattle.abc_run_names.specs.Named.{name_form_at, name_parts_count};
+ghost use Rattle.abc_run_state.specs.Outer.{Outer, setting_in};
 ghost use Rattle.abc_run_members.specs.Found.{IsScopeThere};
-ghost use Rattle.abc_run_members.specs.Scoped.{finds_or_global, finds_strictly, pushes_or_global, pushes_strictly};
+ghost use Rattle.abc_run_members.specs.Scoped.{finds_or_global_here, finds_strictly_here, pushes_or_global, pushes_strictly};
 ghost use Rattle.abc_run_calls.specs.Doing.{CanDo};
 ghost use Rattle.abc_run_state.specs.Doing.{Does};
 
@@ -22,7 +22,7 @@ use abc_run_state::{State, Stop};
 fn push_strictly(linked: &Linked, s: &mut State, found: ScopeFound, parts: u32) -> Result<(), Stop>
     ghost out: { Outer }
     requires can { CanDo linked.now out (λ p. pushes_strictly p found parts) s.old }
-    requires ready { IsReady parts 1 s.old.frames }
+    requires ready { HasFrameRoom parts 1 s.old.frames }
     requires started { length s.old.started ≡ length linked.now.file.scripts }
     requires found { IsScopeThere linked.now s.old.arena found }
     ensures { Does linked.now out (λ p. pushes_strictly p found parts) s.old result s.new }
@@ -41,7 +41,7 @@ fn push_strictly(linked: &Linked, s: &mut State, found: ScopeFound, parts: u32) 
 fn push_or_global(linked: &Linked, s: &mut State, found: ScopeFound, parts: u32) -> Result<(), Stop>
     ghost out: { Outer }
     requires can { CanDo linked.now out (λ p. pushes_or_global p found parts) s.old }
-    requires ready { IsReady parts 1 s.old.frames }
+    requires ready { HasFrameRoom parts 1 s.old.frames }
     requires started { length s.old.started ≡ length linked.now.file.scripts }
     requires found { IsScopeThere linked.now s.old.arena found }
     ensures { Does linked.now out (λ p. pushes_or_global p found parts) s.old result s.new }
@@ -64,10 +64,11 @@ fn push_or_global(linked: &Linked, s: &mut State, found: ScopeFound, parts: u32)
 /// `findpropstrict`.
 pub fn find_strictly(linked: &Linked, s: &mut State, name: u32) -> Result<(), Stop>
     ghost out: { Outer }
-    requires can { CanDo linked.now out (λ p. finds_strictly p name) s.old }
-    requires ready { IsReady (parts_count (form_at (setting linked.now out) name)) 1 s.old.frames }
+    requires can { CanDo linked.now out (λ p. finds_strictly_here p name) s.old }
+    requires ready { HasFrameRoom (name_parts_count (name_form_at (setting_in linked.now out) name)) 1
+        s.old.frames }
     requires started { length s.old.started ≡ length linked.now.file.scripts }
-    ensures { Does linked.now out (λ p. finds_strictly p name) s.old result s.new }
+    ensures { Does linked.now out (λ p. finds_strictly_here p name) s.old result s.new }
 {
     let parts = parts_of(linked, name);
     let wanted = name_of(linked, s, name, 0)?;
@@ -78,10 +79,11 @@ pub fn find_strictly(linked: &Linked, s: &mut State, name: u32) -> Result<(), St
 /// `findproperty`.
 pub fn find_or_global(linked: &Linked, s: &mut State, name: u32) -> Result<(), Stop>
     ghost out: { Outer }
-    requires can { CanDo linked.now out (λ p. finds_or_global p name) s.old }
-    requires ready { IsReady (parts_count (form_at (setting linked.now out) name)) 1 s.old.frames }
+    requires can { CanDo linked.now out (λ p. finds_or_global_here p name) s.old }
+    requires ready { HasFrameRoom (name_parts_count (name_form_at (setting_in linked.now out) name)) 1
+        s.old.frames }
     requires started { length s.old.started ≡ length linked.now.file.scripts }
-    ensures { Does linked.now out (λ p. finds_or_global p name) s.old result s.new }
+    ensures { Does linked.now out (λ p. finds_or_global_here p name) s.old result s.new }
 {
     let parts = parts_of(linked, name);
     let wanted = name_of(linked, s, name, 0)?;

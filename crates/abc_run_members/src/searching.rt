@@ -1,9 +1,9 @@
 ghost use Rattle.std.specs.Prelude.{◌≡◌, ◌+◌, ◌<◌, ◌^◌, Ok};
-ghost use Rattle.abc_frames.specs.Ready.{IsReady};
-ghost use Rattle.abc_run_state.specs.Outer.{Outer, setting};
-ghost use Rattle.abc_run_state.specs.Settling.{given_by, taken_by};
+ghost use Rattle.abc_frames.specs.Ready.{HasFrameRoom};
+ghost use Rattle.abc_run_state.specs.Outer.{Outer, setting_in};
+ghost use Rattle.abc_run_state.specs.Settling.{given_by_how, taken_by};
 ghost use Rattle.abc_run_state.specs.declared.state.Left.TheVariants.{Goes};
-ghost use Rattle.abc_run_members.specs.Members.{calls_named, gets_named, parts_at, receiver_of, sets_named};
+ghost use Rattle.abc_run_members.specs.Members.{calls_named, gets_named, parts_at, receiver_under, sets_named};
 ghost use Rattle.abc_run_calls.specs.Doing.{CanDo, Dispatches, DoesOrLeaves};
 ghost use Rattle.abc_run_state.specs.Doing.{Does};
 
@@ -18,7 +18,7 @@ use abc_run_state::{How, Left, State, Stop, leaves, operand};
 pub fn get_property(linked: &Linked, s: &mut State, name: u32) -> Result<(), Stop>
     ghost out: { Outer }
     requires can { CanDo linked.now out (λ p. gets_named p name) s.old }
-    requires ready { IsReady (parts_at (setting linked.now out) name + 1) 1 s.old.frames }
+    requires ready { HasFrameRoom (parts_at (setting_in linked.now out) name + 1) 1 s.old.frames }
     ensures { Does linked.now out (λ p. gets_named p name) s.old result s.new }
 {
     let parts = parts_of(linked, name);
@@ -32,7 +32,7 @@ pub fn get_property(linked: &Linked, s: &mut State, name: u32) -> Result<(), Sto
 pub fn set_property(linked: &Linked, s: &mut State, name: u32, initial: bool) -> Result<(), Stop>
     ghost out: { Outer }
     requires can { CanDo linked.now out (λ p. sets_named p name initial) s.old }
-    requires ready { IsReady (parts_at (setting linked.now out) name + 2) 0 s.old.frames }
+    requires ready { HasFrameRoom (parts_at (setting_in linked.now out) name + 2) 0 s.old.frames }
     ensures { Does linked.now out (λ p. sets_named p name initial) s.old result s.new }
 {
     let parts = parts_of(linked, name);
@@ -44,7 +44,7 @@ pub fn set_property(linked: &Linked, s: &mut State, name: u32, initial: bool) ->
 
 /// The receiver of a call by a name: `callproplex` has none.
 fn receiver_for(v: Value, lexical: bool) -> Value
-    ensures { result ≡ receiver_of lexical v }
+    ensures { result ≡ receiver_under lexical v }
 {
     if lexical { Value::Null } else { v }
 }
@@ -61,9 +61,10 @@ fn call_searched(
 ) -> Result<Left, Stop>
     ghost out: { Outer }
     requires can { CanDo linked.now out (λ p. calls_named p name count lexical how) s.old }
-    requires ready { IsReady (count + parts_at (setting linked.now out) name + 1) (given_by how) s.old.frames }
+    requires ready { HasFrameRoom (count + parts_at (setting_in linked.now out) name + 1) (given_by_how how)
+        s.old.frames }
     requires count { count < 2 ^ 30 }
-    requires how { taken_by how ≡ count + parts_at (setting linked.now out) name + 1 }
+    requires how { taken_by how ≡ count + parts_at (setting_in linked.now out) name + 1 }
     ensures { DoesOrLeaves linked.now out (λ p. calls_named p name count lexical how) s.old result s.new }
 {
     let parts = parts_of(linked, name);
@@ -86,11 +87,13 @@ pub(crate) fn call_searching(
 ) -> bool
     ghost out: { Outer }
     requires can { CanDo linked.now out (λ p. calls_named p name count lexical how) s.old }
-    requires ready { IsReady (count + parts_at (setting linked.now out) name + 1) (given_by how) s.old.frames }
+    requires ready { HasFrameRoom (count + parts_at (setting_in linked.now out) name + 1) (given_by_how how)
+        s.old.frames }
     requires count { count < 2 ^ 30 }
-    requires how { taken_by how ≡ count + parts_at (setting linked.now out) name + 1 }
+    requires how { taken_by how ≡ count + parts_at (setting_in linked.now out) name + 1 }
     requires none { left.old ≡ Ok Goes }
-    ensures { Dispatches linked.now out (λ p. calls_named p name count lexical how) s.old result left.new s.new }
+    ensures { Dispatches linked.now out (λ p. calls_named p name count lexical how) s.old result left.new
+        s.new }
 {
     leaves(call_searched(linked, s, name, count, lexical, how), left)
 }

@@ -1,15 +1,15 @@
 ghost use Rattle.std.specs.Prelude.{◌≡◌, ◌+◌, ◌<◌, ◌≤◌, ◌^◌};
 ghost use Rattle.abc_heap_store.specs.Texts.{IsText};
-ghost use Rattle.abc_frames.specs.Ready.{IsReady};
+ghost use Rattle.abc_frames.specs.Ready.{HasFrameRoom};
 ghost use Rattle.abc_objects.specs.Values.{Exists};
 ghost use Rattle.abc_link_names.specs.Linked.{IsLayout};
 ghost use Rattle.abc_frames.specs.Frame.{arguments, newest};
 ghost use Rattle.abc_run_calls.specs.Calls.{settled_by};
 ghost use Rattle.abc_run_members.specs.Members.{parts_at};
 ghost use Rattle.abc_run_state.specs.Operands.{operand_at};
-ghost use Rattle.abc_run_state.specs.Outer.{Outer, setting};
-ghost use Rattle.abc_run_state.specs.Settling.{given_by, taken_by};
-ghost use Rattle.abc_run_members.specs.Supers.{calls_super, calls_super_on, gets_super, reads_super, sets_super, writes_super};
+ghost use Rattle.abc_run_state.specs.Outer.{Outer, setting_in};
+ghost use Rattle.abc_run_state.specs.Settling.{given_by_how, taken_by};
+ghost use Rattle.abc_run_members.specs.Supers.{super_call, calls_super_on, gets_super, super_read, sets_super, super_write};
 ghost use Rattle.abc_run_calls.specs.Doing.{CanDo, DoesOrLeaves};
 ghost use Rattle.abc_run_state.specs.Doing.{Does};
 
@@ -33,12 +33,13 @@ fn read_super(
     how: How,
 ) -> Result<(), Stop>
     ghost out: { Outer }
-    requires can { CanDo linked.now out (λ p f. settled_by how f (reads_super p from.0 v name.now)) s.old }
-    requires ready { IsReady (taken_by how) (given_by how) s.old.frames }
+    requires can { CanDo linked.now out (λ p f. settled_by how f (super_read p from.0 v name.now)) s.old }
+    requires ready { HasFrameRoom (taken_by how) (given_by_how how) s.old.frames }
     requires from { IsLayout linked.now from }
     requires value { Exists linked.now s.old.arena v }
     requires name { IsText linked.now.file.strings s.old.arena name.now.text }
-    ensures { Does linked.now out (λ p f. settled_by how f (reads_super p from.0 v name.now)) s.old result s.new }
+    ensures { Does linked.now out (λ p f. settled_by how f (super_read p from.0 v name.now)) s.old result
+        s.new }
 {
     let o = receiver(v)?;
     let found = find_super(linked, s, from, o, name, Want::Read);
@@ -56,15 +57,16 @@ fn write_super(
     how: How,
 ) -> Result<(), Stop>
     ghost out: { Outer }
-    requires can { CanDo linked.now out (λ p f. settled_by how f (writes_super p from.0 v name.now x)) s.old }
-    requires ready { IsReady (taken_by how) (given_by how) s.old.frames }
+    requires can { CanDo linked.now out (λ p f. settled_by how f (super_write p from.0 v name.now x)) s.old }
+    requires ready { HasFrameRoom (taken_by how) (given_by_how how) s.old.frames }
     requires one { 1 ≤ taken_by how }
     requires from { IsLayout linked.now from }
     requires receiver { Exists linked.now s.old.arena v }
     requires name { IsText linked.now.file.strings s.old.arena name.now.text }
     requires value { Exists linked.now s.old.arena x }
     requires top { x ≡ operand_at 0 (newest s.old.frames) }
-    ensures { Does linked.now out (λ p f. settled_by how f (writes_super p from.0 v name.now x)) s.old result s.new }
+    ensures { Does linked.now out (λ p f. settled_by how f (super_write p from.0 v name.now x)) s.old result
+        s.new }
 {
     let o = receiver(v)?;
     let found = find_super(linked, s, from, o, name, Want::Write);
@@ -82,13 +84,16 @@ fn call_super_on(
     how: How,
 ) -> Result<Left, Stop>
     ghost out: { Outer }
-    requires can { CanDo linked.now out (λ p f. settled_by how f (calls_super_on p from.0 v name.now (arguments count f))) s.old }
-    requires ready { IsReady (taken_by how) (given_by how) s.old.frames }
+    requires can { CanDo linked.now out
+        (λ p f. settled_by how f (calls_super_on p from.0 v name.now (arguments count f))) s.old }
+    requires ready { HasFrameRoom (taken_by how) (given_by_how how) s.old.frames }
     requires count { count ≤ taken_by how }
     requires from { IsLayout linked.now from }
     requires value { Exists linked.now s.old.arena v }
     requires name { IsText linked.now.file.strings s.old.arena name.now.text }
-    ensures { DoesOrLeaves linked.now out (λ p f. settled_by how f (calls_super_on p from.0 v name.now (arguments count f))) s.old result s.new }
+    ensures { DoesOrLeaves linked.now out
+        (λ p f. settled_by how f (calls_super_on p from.0 v name.now (arguments count f))) s.old result
+        s.new }
 {
     let o = receiver(v)?;
     let found = find_super(linked, s, from, o, name, Want::Read);
@@ -100,7 +105,7 @@ fn call_super_on(
 pub fn get_super(linked: &Linked, s: &mut State, name: u32, from: LayoutId) -> Result<(), Stop>
     ghost out: { Outer }
     requires can { CanDo linked.now out (λ p. gets_super p name from.0) s.old }
-    requires ready { IsReady (parts_at (setting linked.now out) name + 1) 1 s.old.frames }
+    requires ready { HasFrameRoom (parts_at (setting_in linked.now out) name + 1) 1 s.old.frames }
     requires from { IsLayout linked.now from }
     ensures { Does linked.now out (λ p. gets_super p name from.0) s.old result s.new }
 {
@@ -114,7 +119,7 @@ pub fn get_super(linked: &Linked, s: &mut State, name: u32, from: LayoutId) -> R
 pub fn set_super(linked: &Linked, s: &mut State, name: u32, from: LayoutId) -> Result<(), Stop>
     ghost out: { Outer }
     requires can { CanDo linked.now out (λ p. sets_super p name from.0) s.old }
-    requires ready { IsReady (parts_at (setting linked.now out) name + 2) 0 s.old.frames }
+    requires ready { HasFrameRoom (parts_at (setting_in linked.now out) name + 2) 0 s.old.frames }
     requires from { IsLayout linked.now from }
     ensures { Does linked.now out (λ p. sets_super p name from.0) s.old result s.new }
 {
@@ -135,12 +140,13 @@ pub fn call_super(
     how: How,
 ) -> Result<Left, Stop>
     ghost out: { Outer }
-    requires can { CanDo linked.now out (λ p. calls_super p name from.0 count how) s.old }
-    requires ready { IsReady (count + parts_at (setting linked.now out) name + 1) (given_by how) s.old.frames }
+    requires can { CanDo linked.now out (λ p. super_call p name from.0 count how) s.old }
+    requires ready { HasFrameRoom (count + parts_at (setting_in linked.now out) name + 1) (given_by_how how)
+        s.old.frames }
     requires count { count < 2 ^ 30 }
-    requires how { taken_by how ≡ count + parts_at (setting linked.now out) name + 1 }
+    requires how { taken_by how ≡ count + parts_at (setting_in linked.now out) name + 1 }
     requires from { IsLayout linked.now from }
-    ensures { DoesOrLeaves linked.now out (λ p. calls_super p name from.0 count how) s.old result s.new }
+    ensures { DoesOrLeaves linked.now out (λ p. super_call p name from.0 count how) s.old result s.new }
 {
     let parts = parts_of(linked, name);
     let v = operand(&s.frames, count + parts);

@@ -5,11 +5,11 @@ ghost use Rattle.abc_link_names.specs.Linked.{LinkedFile};
 ghost use Rattle.abc_objects.specs.Stands.{StandsOver};
 ghost use Rattle.abc_objects.specs.Values.{Exists, IsObject};
 ghost use Rattle.abc_link_names.specs.Owners.{owner_of};
-ghost use Rattle.abc_run_state.specs.Outer.{Outer, setting, world};
+ghost use Rattle.abc_run_state.specs.Outer.{Outer, setting_in, world};
 ghost use Rattle.abc_run_state.specs.Standing.{Stays};
-ghost use Rattle.abc_run_state.specs.Stops.{IsOpen, answer};
+ghost use Rattle.abc_run_state.specs.Stops.{IsOpen, part_outcome};
 ghost use Rattle.abc_meaning.specs.Members.{bound_function as bound_so, value_found as value_so};
-ghost use Rattle.abc_run_members.specs.Members.{IsFoundThere, element_on, length_on, slot_on, value_read};
+ghost use Rattle.abc_run_members.specs.Members.{IsFoundThere, read_element, length_on, slot_on, value_read};
 ghost use Rattle.abc_objects.specs.declared.found.Found.TheVariants.{Method, Missing};
 ghost use Rattle.abc_meaning.specs.World.{Went};
 
@@ -35,8 +35,9 @@ fn bound_function(
     requires over { StandsOver linked.now s.old.arena }
     requires inside { IsObject s.old.arena o }
     requires owner { owner ≡ owner_of linked.now.file method }
-    requires free { IsOpen (bound_so (setting linked.now out) owner method o (world s.old out)) }
-    ensures part { bound_so (setting linked.now out) owner method o (world s.old out) ≡ answer result (world s.new out) }
+    requires free { IsOpen (bound_so (setting_in linked.now out) owner method o (world s.old out)) }
+    ensures part { bound_so (setting_in linked.now out) owner method o (world s.old out)
+        ≡ part_outcome result (world s.new out) }
     ensures stays { Stays linked.now s.old s.new }
     ensures there { IfOk result (Exists linked.now s.new.arena) }
 {
@@ -57,7 +58,9 @@ fn bound_function(
 fn missing_on(linked: &Linked, s: &State, v: Value) -> Result<Value, Stop>
     requires over { StandsOver linked.now s.now.arena }
     requires value { Exists linked.now s.now.arena v }
-    ensures part { (out : Outer) → value_so (setting linked.now out) Missing v (world s.now out) ≡ answer result (world s.now out) }
+    ensures part { (out : Outer)
+        → value_so (setting_in linked.now out) Missing v (world s.now out)
+        ≡ part_outcome result (world s.now out) }
     ensures there { IfOk result (Exists linked.now s.now.arena) }
 {
     if is_dynamic(linked, s, v) {
@@ -87,8 +90,8 @@ fn slot_of(linked: &Linked, s: &State, v: Value, slot: u32) -> Value
 fn element_of(linked: &Linked, s: &State, holder: ObjId, index: u32) -> Value
     ghost out: { Outer }
     requires over { StandsOver linked.now s.now.arena }
-    requires free { IsOpen (element_on holder index (world s.now out)) }
-    ensures part { element_on holder index (world s.now out) ≡ Went (world s.now out) result }
+    requires free { IsOpen (read_element holder index (world s.now out)) }
+    ensures part { read_element holder index (world s.now out) ≡ Went (world s.now out) result }
     ensures there { Exists linked.now s.now.arena result }
 {
     let _ = linked;
@@ -123,8 +126,9 @@ pub fn value_found(linked: &Linked, s: &State, found: Found, v: Value) -> Result
     requires over { StandsOver linked.now s.now.arena }
     requires value { Exists linked.now s.now.arena v }
     requires found { IsFoundThere linked.now s.now.arena found }
-    requires free { IsOpen (value_so (setting linked.now out) found v (world s.now out)) }
-    ensures part { value_so (setting linked.now out) found v (world s.now out) ≡ answer result (world s.now out) }
+    requires free { IsOpen (value_so (setting_in linked.now out) found v (world s.now out)) }
+    ensures part { value_so (setting_in linked.now out) found v (world s.now out)
+        ≡ part_outcome result (world s.now out) }
     ensures there { IfOk result (Exists linked.now s.now.arena) }
 {
     match found {
@@ -146,8 +150,10 @@ fn bind(linked: &Linked, s: &mut State, owner: Owner, method: u32, v: Value) -> 
     requires over { StandsOver linked.now s.old.arena }
     requires value { Exists linked.now s.old.arena v }
     requires owner { owner ≡ owner_of linked.now.file method }
-    requires free { IsOpen (value_read (setting linked.now out) (Method owner method) v (world s.old out)) }
-    ensures part { value_read (setting linked.now out) (Method owner method) v (world s.old out) ≡ answer result (world s.new out) }
+    requires free { IsOpen
+        (value_read (setting_in linked.now out) (Method owner method) v (world s.old out)) }
+    ensures part { value_read (setting_in linked.now out) (Method owner method) v (world s.old out)
+        ≡ part_outcome result (world s.new out) }
     ensures stays { Stays linked.now s.old s.new }
     ensures there { IfOk result (Exists linked.now s.new.arena) }
 {
@@ -169,8 +175,9 @@ pub(crate) fn value_of(
     requires over { StandsOver linked.now s.old.arena }
     requires value { Exists linked.now s.old.arena v }
     requires found { IsFoundThere linked.now s.old.arena found }
-    requires free { IsOpen (value_read (setting linked.now out) found v (world s.old out)) }
-    ensures part { value_read (setting linked.now out) found v (world s.old out) ≡ answer result (world s.new out) }
+    requires free { IsOpen (value_read (setting_in linked.now out) found v (world s.old out)) }
+    ensures part { value_read (setting_in linked.now out) found v (world s.old out)
+        ≡ part_outcome result (world s.new out) }
     ensures stays { Stays linked.now s.old s.new }
     ensures there { IfOk result (Exists linked.now s.new.arena) }
 {

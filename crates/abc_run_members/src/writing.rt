@@ -4,18 +4,18 @@ ghost use Rattle.abc_heap_store.specs.Heap.{elements_of, object_at};
 ghost use Rattle.abc_heap_store.specs.Texts.{IsText};
 ghost use Rattle.abc_heap_store.specs.What.{is_array};
 ghost use Rattle.abc_lookup.specs.Named.{element_in};
-ghost use Rattle.abc_frames.specs.Ready.{IsReady};
+ghost use Rattle.abc_frames.specs.Ready.{HasFrameRoom};
 ghost use Rattle.abc_objects.specs.Stands.{StandsOver};
 ghost use Rattle.abc_objects.specs.Values.{Exists, IsObject};
 ghost use Rattle.abc_objects.specs.ElementNames.{IsNumber};
 ghost use Rattle.abc_frames.specs.Frame.{newest};
 ghost use Rattle.abc_run_state.specs.Operands.{operand_at};
-ghost use Rattle.abc_run_state.specs.Outer.{Outer, setting, world};
-ghost use Rattle.abc_run_state.specs.Settling.{given_by, taken_by};
+ghost use Rattle.abc_run_state.specs.Outer.{Outer, setting_in, world};
+ghost use Rattle.abc_run_state.specs.Settling.{given_by_how, taken_by};
 ghost use Rattle.abc_run_state.specs.Standing.{IsSet, Stays};
-ghost use Rattle.abc_run_state.specs.Stops.{IsOpen, answer};
+ghost use Rattle.abc_run_state.specs.Stops.{IsOpen, part_outcome};
 ghost use Rattle.abc_meaning.specs.Members.{write_element as write_element_so, write_own as write_own_so, write_property as write_property_so, writes_to};
-ghost use Rattle.abc_run_members.specs.Members.{may_take as may_take_so, public_written, puts_element, slot_written_if, value_written, writes_found, writes_value};
+ghost use Rattle.abc_run_members.specs.Members.{may_take_property as may_take_so, public_written, puts_element, slot_written_if, value_written, writes_found, writes_value};
 ghost use Rattle.abc_run_calls.specs.Doing.{CanDo};
 ghost use Rattle.abc_run_state.specs.Doing.{Does};
 
@@ -35,7 +35,9 @@ fn write_element(linked: &Linked, s: &mut State, o: ObjId, k: u32, v: Value) -> 
     requires inside { IsObject s.old.arena o }
     requires array { is_array (object_at s.old.arena.objects o.0).what ≡ true }
     requires value { Exists linked.now s.old.arena v }
-    ensures part { (out : Outer) → write_element_so o (length (elements_of s.old.arena.objects o.0)) k v (world s.old out) ≡ answer result (world s.new out) }
+    ensures part { (out : Outer)
+        → write_element_so o (length (elements_of s.old.arena.objects o.0)) k v (world s.old out)
+        ≡ part_outcome result (world s.new out) }
     ensures stays { Stays linked.now s.old s.new }
 {
     let _ = linked;
@@ -57,7 +59,8 @@ fn write_element(linked: &Linked, s: &mut State, o: ObjId, k: u32, v: Value) -> 
 #[inline(always)]
 fn kept_at(s: &State, o: ObjId, element: ElementName) -> Option<u32>
     requires { IsObject s.now.arena o }
-    ensures { MatchOption result (Unit {0}) (λ k. (element_in (Some element) ≡ Some (IsNumber k)) × (k < length (elements_of s.now.arena.objects o.0))) }
+    ensures { MatchOption result (Unit {0}) (λ k. (element_in (Some element) ≡ Some (IsNumber k))
+        × (k < length (elements_of s.now.arena.objects o.0))) }
 {
     match element {
         ElementName::Number(k) => { if k < s.arena.length(o) { Some(k) } else { None } }
@@ -72,7 +75,11 @@ pub(crate) fn kept_element(linked: &Linked, s: &State, o: ObjId, name: &Name) ->
     requires over { StandsOver linked.now s.now.arena }
     requires inside { IsObject s.now.arena o }
     requires name { IsText linked.now.file.strings s.now.arena name.now.text }
-    ensures { MatchOption result (Unit {0}) (λ k. (k < length (elements_of s.now.arena.objects o.0)) × ((out : Outer) (x : Value) (initial : Bool) → writes_to (setting linked.now out) (Obj o) name.now x initial (world s.now out) ≡ puts_element o (length (elements_of s.now.arena.objects o.0)) k x (world s.now out))) }
+    ensures { MatchOption result (Unit {0}) (λ k. (k < length (elements_of s.now.arena.objects o.0))
+        × ((out : Outer) (x : Value) (initial : Bool)
+        → writes_to (setting_in linked.now out) (Obj o) name.now x initial (world s.now out)
+        ≡ puts_element o (length (elements_of s.now.arena.objects o.0)) k x
+        (world s.now out))) }
 {
     if !is_plain(linked, &s.arena, o, name) {
         return None;
@@ -89,7 +96,7 @@ fn may_take(linked: &Linked, s: &State, o: ObjId, text: Span) -> bool
     requires over { StandsOver linked.now s.now.arena }
     requires inside { IsObject s.now.arena o }
     requires name { IsText linked.now.file.strings s.now.arena text }
-    ensures { (out : Outer) → result ≡ may_take_so (setting linked.now out) o text (world s.now out) }
+    ensures { (out : Outer) → result ≡ may_take_so (setting_in linked.now out) o text (world s.now out) }
 {
     if is_dynamic(linked, s, Value::Obj(o)) {
         return true;
@@ -104,7 +111,9 @@ fn write_own(linked: &Linked, s: &mut State, o: ObjId, text: Span, v: Value) -> 
     requires inside { IsObject s.old.arena o }
     requires name { IsText linked.now.file.strings s.old.arena text }
     requires value { Exists linked.now s.old.arena v }
-    ensures part { (out : Outer) → write_own_so (setting linked.now out) o (object_at s.old.arena.objects o.0) text v None (world s.old out) ≡ answer result (world s.new out) }
+    ensures part { (out : Outer)
+        → write_own_so (setting_in linked.now out) o (object_at s.old.arena.objects o.0) text v None
+        (world s.old out) ≡ part_outcome result (world s.new out) }
     ensures stays { Stays linked.now s.old s.new }
 {
     if may_take(linked, s, o, text) {
@@ -127,7 +136,9 @@ fn write_property(
     requires inside { IsObject s.old.arena o }
     requires name { IsText linked.now.file.strings s.old.arena text }
     requires value { Exists linked.now s.old.arena v }
-    ensures part { (out : Outer) → write_property_so (setting linked.now out) o text v (world s.old out) ≡ answer result (world s.new out) }
+    ensures part { (out : Outer)
+        → write_property_so (setting_in linked.now out) o text v (world s.old out)
+        ≡ part_outcome result (world s.new out) }
     ensures stays { Stays linked.now s.old s.new }
 {
     match element_named(linked, &s.arena, o, text) {
@@ -152,8 +163,9 @@ fn write_to_slot(
     requires over { StandsOver linked.now s.old.arena }
     requires inside { IsObject s.old.arena o }
     requires value { Exists linked.now s.old.arena v }
-    requires free { IsOpen (slot_written_if allowed (setting linked.now out) o slot v (world s.old out)) }
-    ensures part { slot_written_if allowed (setting linked.now out) o slot v (world s.old out) ≡ answer result (world s.new out) }
+    requires free { IsOpen (slot_written_if allowed (setting_in linked.now out) o slot v (world s.old out)) }
+    ensures part { slot_written_if allowed (setting_in linked.now out) o slot v (world s.old out)
+        ≡ part_outcome result (world s.new out) }
     ensures stays { Stays linked.now s.old s.new }
 {
     if allowed {
@@ -177,7 +189,9 @@ fn write_public(linked: &Linked, s: &mut State, o: ObjId, name: &Name, v: Value)
     requires inside { IsObject s.old.arena o }
     requires name { IsText linked.now.file.strings s.old.arena name.now.text }
     requires value { Exists linked.now s.old.arena v }
-    ensures part { (out : Outer) → public_written (setting linked.now out) o name.now v (world s.old out) ≡ answer result (world s.new out) }
+    ensures part { (out : Outer)
+        → public_written (setting_in linked.now out) o name.now v (world s.old out)
+        ≡ part_outcome result (world s.new out) }
     ensures stays { Stays linked.now s.old s.new }
 {
     if holds_public(linked, name.spaces) {
@@ -203,8 +217,10 @@ fn write_value(
     requires inside { IsObject s.old.arena o }
     requires name { IsText linked.now.file.strings s.old.arena name.now.text }
     requires value { Exists linked.now s.old.arena v }
-    requires free { IsOpen (value_written (setting linked.now out) o name.now v initial found (world s.old out)) }
-    ensures part { value_written (setting linked.now out) o name.now v initial found (world s.old out) ≡ answer result (world s.new out) }
+    requires free { IsOpen
+        (value_written (setting_in linked.now out) o name.now v initial found (world s.old out)) }
+    ensures part { value_written (setting_in linked.now out) o name.now v initial found (world s.old out)
+        ≡ part_outcome result (world s.new out) }
     ensures stays { Stays linked.now s.old s.new }
 {
     match found {
@@ -232,11 +248,12 @@ fn write_at_once(
 ) -> Result<(), Stop>
     ghost out: { Outer }
     requires set { IsSet linked.now s.old }
-    requires ready { IsReady (taken_by how) (given_by how) s.old.frames }
+    requires ready { HasFrameRoom (taken_by how) (given_by_how how) s.old.frames }
     requires inside { IsObject s.old.arena o }
     requires name { IsText linked.now.file.strings s.old.arena name.now.text }
     requires value { Exists linked.now s.old.arena v }
-    requires free { IsOpen (writes_value (setting linked.now out) o name.now v initial found how (newest s.old.frames) (world s.old out)) }
+    requires free { IsOpen (writes_value (setting_in linked.now out) o name.now v initial found how
+        (newest s.old.frames) (world s.old out)) }
     ensures { Does linked.now out (λ p. writes_value p o name.now v initial found how) s.old result s.new }
 {
     write_value(linked, s, o, name, v, initial, found)?;
@@ -258,11 +275,12 @@ fn write_declared(
 ) -> Result<(), Stop>
     ghost out: { Outer }
     requires set { IsSet linked.now s.old }
-    requires ready { IsReady (taken_by how) (given_by how) s.old.frames }
+    requires ready { HasFrameRoom (taken_by how) (given_by_how how) s.old.frames }
     requires inside { IsObject s.old.arena o }
     requires name { IsText linked.now.file.strings s.old.arena name.now.text }
     requires value { Exists linked.now s.old.arena v }
-    requires free { IsOpen (writes_value (setting linked.now out) o name.now v initial found how (newest s.old.frames) (world s.old out)) }
+    requires free { IsOpen (writes_value (setting_in linked.now out) o name.now v initial found how
+        (newest s.old.frames) (world s.old out)) }
     ensures { Does linked.now out (λ p. writes_value p o name.now v initial found how) s.old result s.new }
 {
     write_at_once(linked, s, o, name, v, initial, found, how)
@@ -283,7 +301,7 @@ pub fn write_found(
 ) -> Result<(), Stop>
     ghost out: { Outer }
     requires can { CanDo linked.now out (λ p. writes_found p o name.now v initial found how) s.old }
-    requires ready { IsReady (taken_by how) (given_by how) s.old.frames }
+    requires ready { HasFrameRoom (taken_by how) (given_by_how how) s.old.frames }
     requires one { 1 ≤ taken_by how }
     requires inside { IsObject s.old.arena o }
     requires name { IsText linked.now.file.strings s.old.arena name.now.text }

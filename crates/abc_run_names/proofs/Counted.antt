@@ -4,10 +4,10 @@ use Rattle.std.specs.Prelude.{if◌then◌else◌}
 use Rattle.abc_file_types.specs.declared.names.Multiname.{Multiname}
 use Rattle.abc_file_types.specs.declared.names.Multiname.TheVariants as names
 use Rattle.abc_meaning.specs.Setting.{Setting, name_form}
-use Rattle.abc_run_names.specs.Named.{parts_count}
+use Rattle.abc_run_names.specs.Named.{name_parts_count}
 
 abbrev taken : Setting → Multiname → ℕ
-taken p m = parts_count (name_form p m)
+taken p m = name_parts_count (name_form p m)
 
 abbrev unless : Bool → ℕ → ℕ
 unless b n = if b then 0 else n

@@ -21,13 +21,13 @@ use Rattle.abc_file_types.specs.Classes.{sizes_of}
 use Rattle.abc_file_types.specs.declared.names.Multiname.{Multiname}
 use Rattle.abc_file_types.specs.declared.names.Multiname.TheVariants as names
 use Rattle.abc_file_types.specs.declared.tables.Sizes.{Sizes}
-use Rattle.abc_verify_typing.specs.Effects.{name_at}
-use Rattle.abc_meaning.specs.Names.{form_in}
-use Rattle.abc_meaning.specs.Setting.{NameForm, NoPart, NoSpace, NoText, Setting, Whole, name_form, spaces_of, string_of}
+use Rattle.abc_verify_typing.specs.Effects.{multiname_at}
+use Rattle.abc_meaning.specs.Names.{form_of_name}
+use Rattle.abc_meaning.specs.Setting.{NameForm, NoPart, NoSpace, NoText, Setting, Whole, name_form, spaces_for, string_of}
 use Rattle.abc_run_names.specs.declared.runtime_names.Form.{Form}
 use Rattle.abc_run_names.specs.declared.runtime_names.Form.TheVariants as forms
-use Rattle.abc_run_names.specs.Form.{HasString, HasText, form_of, forms_of}
-use Rattle.abc_run_names.specs.Named.{HasParts, form_at, parts_count}
+use Rattle.abc_run_names.specs.Form.{HasString, HasFormText, name_form_of, forms_of}
+use Rattle.abc_run_names.specs.Named.{HasNameParts, name_form_at, name_parts_count}
 
 -- ---- one name, by what the code makes of its parts
 
@@ -37,11 +37,11 @@ unless b f = if b then None else Some f
 abbrev whole : Spaces → Span → Form
 whole of t = forms.Whole (record { spaces = of; text = t })
 
-pub qname_is : (p : Setting) (m : Multiname) (b : Bool) (ns i : ℕ) (of : Spaces) (t : Span) (r : Option Form) → m ≡ names.QName b ns i → of ≡ spaces_of ns → t ≡ string_of p i → r ≡ unless b (whole of t) → forms_of r ≡ name_form p m
+pub qname_is : (p : Setting) (m : Multiname) (b : Bool) (ns i : ℕ) (of : Spaces) (t : Span) (r : Option Form) → m ≡ names.QName b ns i → of ≡ spaces_for ns → t ≡ string_of p i → r ≡ unless b (whole of t) → forms_of r ≡ name_form p m
 qname_is p m b ns i of t r is e f g =
-    ap forms_of g ∙ ap (λ x. forms_of (unless b (whole x t))) e ∙ ap (λ x. forms_of (unless b (whole (spaces_of ns) x))) f ∙ go b ∙ ap (name_form p) (sym is)
+    ap forms_of g ∙ ap (λ x. forms_of (unless b (whole x t))) e ∙ ap (λ x. forms_of (unless b (whole (spaces_for ns) x))) f ∙ go b ∙ ap (name_form p) (sym is)
   where
-    go : (c : Bool) → forms_of (unless c (whole (spaces_of ns) (string_of p i))) ≡ name_form p (names.QName c ns i)
+    go : (c : Bool) → forms_of (unless c (whole (spaces_for ns) (string_of p i))) ≡ name_form p (names.QName c ns i)
     go true = refl
     go false = refl
 
@@ -77,21 +77,21 @@ rtl_is p m b r is g = ap forms_of g ∙ go b ∙ ap (name_form p) (sym is)
 
 -- ---- the name of an instruction
 
-pub form_none : (p : Setting) (n : ℕ) → n ≡ 0 → form_at p n ≡ None
-form_none p n e = ap (form_at p) e
+pub form_none : (p : Setting) (n : ℕ) → n ≡ 0 → name_form_at p n ≡ None
+form_none p n e = ap (name_form_at p) e
 
-form_there : (p : Setting) (n : ℕ) → 0 < n → form_at p n ≡ form_in p (slice_get p.linked.file.names (n - 1))
-form_there p n b = ap (λ t. form_in p (cond t (slice_get p.linked.file.names (n - 1)) None)) (lt-ltb 0 n b)
+form_there : (p : Setting) (n : ℕ) → 0 < n → name_form_at p n ≡ form_of_name p (slice_get p.linked.file.names (n - 1))
+form_there p n b = ap (λ t. form_of_name p (cond t (slice_get p.linked.file.names (n - 1)) None)) (lt-ltb 0 n b)
 
-pub form_found : (p : Setting) (n : ℕ) (m : Multiname) → 0 < n → slice_get p.linked.file.names (n - 1) ≡ Some m → form_at p n ≡ name_form p m
-form_found p n m b e = form_there p n b ∙ ap (form_in p) e
+pub form_found : (p : Setting) (n : ℕ) (m : Multiname) → 0 < n → slice_get p.linked.file.names (n - 1) ≡ Some m → name_form_at p n ≡ name_form p m
+form_found p n m b e = form_there p n b ∙ ap (form_of_name p) e
 
-pub form_past : (p : Setting) (n : ℕ) → 0 < n → slice_get p.linked.file.names (n - 1) ≡ None → form_at p n ≡ None
-form_past p n b e = form_there p n b ∙ ap (form_in p) e
+pub form_past : (p : Setting) (n : ℕ) → 0 < n → slice_get p.linked.file.names (n - 1) ≡ None → name_form_at p n ≡ None
+form_past p n b e = form_there p n b ∙ ap (form_of_name p) e
 
 -- ---- texts of names are there, and their strings can be counted
 
-name_text : (p : Setting) (h : Heap) (m : Multiname) → HasText p.linked.file.strings h (name_form p m)
+name_text : (p : Setting) (h : Heap) (m : Multiname) → HasFormText p.linked.file.strings h (name_form p m)
 name_text p h (names.QName false ns i) = string_there p.linked.file.strings h i
 name_text p h (names.QName true ns i) = tt
 name_text p h (names.Multi false i set) = string_there p.linked.file.strings h i
@@ -104,25 +104,25 @@ name_text p h (names.RtL false) = tt
 name_text p h (names.RtL true) = tt
 name_text p h (names.TypeName base params) = tt
 
-pub form_text : (p : Setting) (h : Heap) (n : ℕ) → HasText p.linked.file.strings h (form_at p n)
-form_text p h n = go (name_at p.linked n)
+pub form_text : (p : Setting) (h : Heap) (n : ℕ) → HasFormText p.linked.file.strings h (name_form_at p n)
+form_text p h n = go (multiname_at p.linked n)
   where
-    go : (m : Option Multiname) → HasText p.linked.file.strings h (form_in p m)
+    go : (m : Option Multiname) → HasFormText p.linked.file.strings h (form_of_name p m)
     go None = tt
     go (Some m) = name_text p h m
 
 -- a form of which no part comes at run time
-pub whole_form : (o : Option Name) (form : Form) (r : Option NameForm) → MatchOption o (Unit {0}) (λ x. form_of form ≡ Whole x) → forms_of (Some form) ≡ r → MatchOption o (Unit {0}) (λ x. r ≡ Some (Whole x))
+pub whole_form : (o : Option Name) (form : Form) (r : Option NameForm) → MatchOption o (Unit {0}) (λ x. name_form_of form ≡ Whole x) → forms_of (Some form) ≡ r → MatchOption o (Unit {0}) (λ x. r ≡ Some (Whole x))
 whole_form None form r h e = tt
 whole_form (Some x) form r h e = sym e ∙ ap (λ (f : NameForm). Some f) h
 
-pub late_form : (o : Option Spaces) (form : Form) (r : Option NameForm) → MatchOption o (Unit {0}) (λ of. form_of form ≡ NoText of) → forms_of (Some form) ≡ r → MatchOption o (Unit {0}) (λ of. r ≡ Some (NoText of))
+pub late_form : (o : Option Spaces) (form : Form) (r : Option NameForm) → MatchOption o (Unit {0}) (λ of. name_form_of form ≡ NoText of) → forms_of (Some form) ≡ r → MatchOption o (Unit {0}) (λ of. r ≡ Some (NoText of))
 late_form None form r h e = tt
 late_form (Some of) form r h e = sym e ∙ ap (λ (f : NameForm). Some f) h
 
-pub whole_text : (p : Setting) (h : Heap) (n : ℕ) (o : Option Name) → MatchOption o (Unit {0}) (λ x. form_at p n ≡ Some (Whole x)) → MatchOption o (Unit {0}) (λ x. IsText p.linked.file.strings h x.text)
+pub whole_text : (p : Setting) (h : Heap) (n : ℕ) (o : Option Name) → MatchOption o (Unit {0}) (λ x. name_form_at p n ≡ Some (Whole x)) → MatchOption o (Unit {0}) (λ x. IsText p.linked.file.strings h x.text)
 whole_text p h n None e = tt
-whole_text p h n (Some x) e = subst (HasText p.linked.file.strings h) e (form_text p h n)
+whole_text p h n (Some x) e = subst (HasFormText p.linked.file.strings h) e (form_text p h n)
 
 fields_small : (strings namespaces sets all : ℕ) (m : Multiname) → HasFields strings namespaces sets all m → HasString m
 fields_small strings namespaces sets all (names.QName attr ns i) h = ((pool_index_fits strings i).0 h.1).1
@@ -144,7 +144,7 @@ string_small l f k m e =
 
 -- ---- the parts of a name are there where so many operands are
 
-pub has_parts : (o : Option NameForm) (above : ℕ) (f : Frame) → above + parts_count o ≤ length f.stack → HasParts o above f
+pub has_parts : (o : Option NameForm) (above : ℕ) (f : Frame) → above + name_parts_count o ≤ length f.stack → HasNameParts o above f
 has_parts None above f b = tt
 has_parts (Some (Whole name)) above f b = tt
 has_parts (Some (NoSpace text)) above f b = omega arith

@@ -8,11 +8,11 @@ use Rattle.abc_heap_values.specs.declared.values.ObjId.{ObjId}
 use Rattle.abc_heap_values.specs.declared.values.Value.{Value}
 use Rattle.abc_heap_values.specs.declared.values.Value.TheVariants.{Null, Obj}
 use Rattle.abc_heap_store.specs.Changes.{with_object, with_slot}
-use Rattle.abc_heap_store.specs.Heap.{Heap, Object, object_at, slots_of as slots_of_object}
+use Rattle.abc_heap_store.specs.Heap.{Heap, Object, object_at, slots_of_object}
 use Rattle.abc_frames.specs.Moves.{dropped_on}
 use Rattle.abc_objects.specs.Growing.{Grows}
 use Rattle.abc_objects.specs.Stands.{StandsOver}
-use Rattle.abc_objects.specs.Values.{slot_kind}
+use Rattle.abc_objects.specs.Values.{slot_kind_of_object}
 use Rattle.abc_objects.proofs.Kept.{slots_there}
 use Rattle.abc_link_names.specs.Linked.{LinkedFile}
 use Rattle.abc_link_names.specs.Slots.{slot_numbered, slots_of}
@@ -20,13 +20,13 @@ use Rattle.abc_link_names.specs.Types.{kind_of_type}
 use Rattle.abc_link_names.specs.declared.types.SlotInfo.{SlotInfo}
 use Rattle.abc_link_names.specs.declared.types.Ty.{Ty}
 use Rattle.abc_link_names.specs.declared.types.Ty.TheVariants as types
-use Rattle.abc_frames.specs.Frame.{Frame, Frames, dropped, newest, with_newest}
+use Rattle.abc_frames.specs.Frame.{Frame, Frames, after_drop, newest, with_newest}
 use Rattle.abc_link_names.specs.declared.start.Start.TheVariants as starts
-use Rattle.abc_meaning.specs.At.{Act, goes, next}
+use Rattle.abc_meaning.specs.At.{Act, goes, next_frame}
 use Rattle.abc_run_state.proofs.Things.{object_is, slots_counted}
 use Rattle.abc_run_state.specs.Outer.{at_heap}
 use Rattle.abc_run_state.specs.Stops.{IsOpen, why}
-use Rattle.abc_run_state.specs.Turns.{GoesOn, Halts, bared, turned}
+use Rattle.abc_run_state.specs.Turns.{GoesOn, Halts, bare_newest, turn_of}
 use Rattle.abc_run_state.specs.declared.state.Stop.{Stop as Why}
 use Rattle.abc_run_state.proofs.Turning.{open_first}
 use Rattle.abc_meaning.specs.Members.{slot_info, write_slot}
@@ -34,7 +34,7 @@ use Rattle.abc_meaning.specs.Ops.{coerces}
 use Rattle.abc_meaning.specs.Setting.{Setting}
 use Rattle.abc_meaning.specs.World.{Outcome, Run, Stop, Stopped, Went, World, and_then, changes, some, ◌>>=◌, ◌>>◌}
 use Rattle.abc_run_names.specs.Numbered.{on_numbered, slot_type}
-use Rattle.abc_run_names.specs.Receivers.{IsReceiver, receiver_of}
+use Rattle.abc_run_names.specs.Receivers.{IsReceiver, receiver_object}
 use Rattle.abc_run_names.proofs.Receiving.{receiver_open}
 
 -- an object that has a slot is there
@@ -98,7 +98,7 @@ slot_kept l a b o k s t g h =
     let same : length (slots_of l (object_at b.objects o.0).layout) ≡ length (slots_of l (object_at a.objects o.0).layout) = ap (λ (x : ℕ). length (slots_of l x)) (layout_kept a b o g there) in
     omega (arith, h, same, slots_counted l a o.0 s there, slots_counted l b o.0 t (g.objects o.0 there).0)
 
-pub type_kept : (l : LinkedFile) (a b : Heap) (o : ObjId) (k : ℕ) → Grows a b → o.0 < length a.objects → kind_of_type l (slot_type l a o k) ≡ slot_kind l b o k
+pub type_kept : (l : LinkedFile) (a b : Heap) (o : ObjId) (k : ℕ) → Grows a b → o.0 < length a.objects → kind_of_type l (slot_type l a o k) ≡ slot_kind_of_object l b o k
 type_kept l a b o k g t = ap (λ (x : ℕ). kind_of_type l (get_or (slots_of l x) k any_slot).ty) (sym (layout_kept a b o g t))
 
 -- ---- by numbers
@@ -122,7 +122,7 @@ pub numbered : {X : Type 0} (p : Setting) (n : ℕ) (o : ObjId) (k : ℕ) (f : O
 numbered p n o k f w t e = at_number p n o f w t ∙ ap (λ s. and_then (some s w) (f o (object_at w.heap.objects o.0))) e
 
 -- null throws first
-pub on_receiver : {X : Type 0} (p : Setting) (n : ℕ) (v : Value) (f : ObjId → Object → ℕ → Run X) (w : World) → on_numbered p n v f w ≡ and_then (receiver_of v w) (λ o. on_numbered p n (Obj o) f)
+pub on_receiver : {X : Type 0} (p : Setting) (n : ℕ) (v : Value) (f : ObjId → Object → ℕ → Run X) (w : World) → on_numbered p n v f w ≡ and_then (receiver_object v w) (λ o. on_numbered p n (Obj o) f)
 on_receiver p n (Obj o) f w = refl
 on_receiver p n Null f w = refl
 on_receiver p n other f w = refl
@@ -131,9 +131,9 @@ on_receiver p n other f w = refl
 
 module _ {X : Type 0} (p : Setting) (n : ℕ) (f : ObjId → Object → ℕ → Run X) (v x : Value) (w : World) (is : v ≡ x) where
   pub open_receiver : IsOpen (on_numbered p n x f w) → IsReceiver v
-  open_receiver h = receiver_open v w (open_first (receiver_of v w) (λ o. on_numbered p n (Obj o) f) (subst IsOpen (ap (λ y. on_numbered p n y f w) (sym is) ∙ on_receiver p n v f w) h))
+  open_receiver h = receiver_open v w (open_first (receiver_object v w) (λ o. on_numbered p n (Obj o) f) (subst IsOpen (ap (λ y. on_numbered p n y f w) (sym is) ∙ on_receiver p n v f w) h))
 
-  pub numbered_stopped : (why : Stop) → receiver_of v w ≡ Stopped w why → on_numbered p n x f w ≡ Stopped w why
+  pub numbered_stopped : (why : Stop) → receiver_object v w ≡ Stopped w why → on_numbered p n x f w ≡ Stopped w why
   numbered_stopped why e = ap (λ y. on_numbered p n y f w) (sym is) ∙ on_receiver p n v f w ∙ ap (λ r. and_then r (λ o. on_numbered p n (Obj o) f)) e
 
   module _ (o : ObjId) (object : v ≡ Obj o) where
@@ -167,12 +167,12 @@ write_within p o k x w st t h =
 -- ---- an instruction that pushes nothing
 
 then_next : ℕ → Frame → Outcome (Unit {0}) → Outcome Act
-then_next n f r = and_then r (λ u. goes (next (dropped n f)))
+then_next n f r = and_then r (λ u. goes (next_frame (after_drop n f)))
 
-pub drops_on : (p : Setting) (q mid r : Frames) (n : ℕ) (m : Run (Unit {0})) (w new : World) → m w ≡ Went new tt → mid ≡ q → r ≡ with_newest (dropped_on n) mid → turned p q ((m >> goes (next (dropped n (newest q)))) w) ≡ GoesOn new r
+pub drops_on : (p : Setting) (q mid r : Frames) (n : ℕ) (m : Run (Unit {0})) (w new : World) → m w ≡ Went new tt → mid ≡ q → r ≡ with_newest (dropped_on n) mid → turn_of p q ((m >> goes (next_frame (after_drop n (newest q)))) w) ≡ GoesOn new r
 unfolding then_next
-drops_on p q mid r n m w new e same is = ap (λ o. turned p q (then_next n (newest q) o)) e ∙ ap (λ k. GoesOn new (with_newest (dropped_on n) k)) (sym same) ∙ ap (GoesOn new) (sym is)
+drops_on p q mid r n m w new e same is = ap (λ o. turn_of p q (then_next n (newest q) o)) e ∙ ap (λ k. GoesOn new (with_newest (dropped_on n) k)) (sym same) ∙ ap (GoesOn new) (sym is)
 
-pub drops_stopped : (p : Setting) (q mid : Frames) (n : ℕ) (m : Run (Unit {0})) (w new : World) (s : Why) → m w ≡ Stopped new (why s) → mid ≡ q → turned p q ((m >> goes (next (dropped n (newest q)))) w) ≡ Halts new (bared mid) (why s)
+pub drops_stopped : (p : Setting) (q mid : Frames) (n : ℕ) (m : Run (Unit {0})) (w new : World) (s : Why) → m w ≡ Stopped new (why s) → mid ≡ q → turn_of p q ((m >> goes (next_frame (after_drop n (newest q)))) w) ≡ Halts new (bare_newest mid) (why s)
 unfolding then_next
-drops_stopped p q mid n m w new s e same = ap (λ o. turned p q (then_next n (newest q) o)) e ∙ ap (λ k. Halts new (bared k) (why s)) (sym same)
+drops_stopped p q mid n m w new s e same = ap (λ o. turn_of p q (then_next n (newest q) o)) e ∙ ap (λ k. Halts new (bare_newest k) (why s)) (sym same)

@@ -16,8 +16,8 @@ use Rattle.abc_run_state.proofs.Things.{object_is}
 use Rattle.abc_meaning.specs.Members.{with_holder}
 use Rattle.abc_meaning.specs.Ops.{spells}
 use Rattle.abc_meaning.specs.Setting.{Setting}
-use Rattle.abc_meaning.specs.Types.{is_of}
-use Rattle.abc_meaning.specs.World.{Outcome, Run, Stop, Stopped, Went, World, and_then, done, see, some, ◌>>=◌}
+use Rattle.abc_meaning.specs.Types.{is_of_type}
+use Rattle.abc_meaning.specs.World.{Outcome, Run, Stop, Stopped, Went, World, and_then, pure, see, some, ◌>>=◌}
 use Rattle.abc_run_names.specs.Late.{name_is_in}
 use Rattle.abc_run_names.proofs.Receiving.{holder_first, passed}
 
@@ -36,22 +36,22 @@ late_is p c d f w o same e = ap (λ x. and_then (late_type p x w) f) (sym same) 
 pub late_stops : {X : Type 0} (p : Setting) (c d : Value) (f : Ty → Run X) (w : World) (why : Stop) → c ≡ d → late_type p c w ≡ Stopped w why → (late_type p d >>= f) w ≡ Stopped w why
 late_stops p c d f w why same e = late_is p c d f w (Stopped w why) same e
 
-pub late_kept : (p : Setting) (c d v x : Value) (w : World) (t : Ty) (is : Bool) (r : Value) → c ≡ d → v ≡ x → late_type p c w ≡ Went w t → is ≡ is_of p.linked w.heap t v → r ≡ or_null v is → (late_type p d >>= kept_as p x) w ≡ Went w r
+pub late_kept : (p : Setting) (c d v x : Value) (w : World) (t : Ty) (is : Bool) (r : Value) → c ≡ d → v ≡ x → late_type p c w ≡ Went w t → is ≡ is_of_type p.linked w.heap t v → r ≡ or_null v is → (late_type p d >>= kept_as p x) w ≡ Went w r
 late_kept p c d v x w t is r same value e test kept =
     late_is p c d (kept_as p x) w (Went w t) same e
-    ∙ ap (λ y. Went w (or_null y (is_of p.linked w.heap t y))) (sym value)
+    ∙ ap (λ y. Went w (or_null y (is_of_type p.linked w.heap t y))) (sym value)
     ∙ ap (λ b. Went w (or_null v b)) (sym test)
     ∙ ap (Went w) (sym kept)
 
-pub late_tested : (p : Setting) (c d v x : Value) (w : World) (t : Ty) (is : Bool) → c ≡ d → v ≡ x → late_type p c w ≡ Went w t → is ≡ is_of p.linked w.heap t v → (late_type p d >>= tested_as p x) w ≡ Went w (Truth is)
+pub late_tested : (p : Setting) (c d v x : Value) (w : World) (t : Ty) (is : Bool) → c ≡ d → v ≡ x → late_type p c w ≡ Went w t → is ≡ is_of_type p.linked w.heap t v → (late_type p d >>= tested_as p x) w ≡ Went w (Truth is)
 late_tested p c d v x w t is same value e test =
     late_is p c d (tested_as p x) w (Went w t) same e
-    ∙ ap (λ y. Went w (Truth (is_of p.linked w.heap t y))) (sym value)
+    ∙ ap (λ y. Went w (Truth (is_of_type p.linked w.heap t y))) (sym value)
     ∙ ap (λ b. Went w (Truth b)) (sym test)
 
-pub late_instance : (p : Setting) (c d v x : Value) (w : World) (t : Ty) (is : Bool) → c ≡ d → v ≡ x → late_type p c w ≡ Went w t → is ≡ is_instance v c w → (late_type p d >>= λ u. see (is_instance x d) >>= λ b. done (Truth b)) w ≡ Went w (Truth is)
+pub late_instance : (p : Setting) (c d v x : Value) (w : World) (t : Ty) (is : Bool) → c ≡ d → v ≡ x → late_type p c w ≡ Went w t → is ≡ is_instance v c w → (late_type p d >>= λ u. see (is_instance x d) >>= λ b. pure (Truth b)) w ≡ Went w (Truth is)
 late_instance p c d v x w t is same value e test =
-    late_is p c d (λ u. see (is_instance x d) >>= λ b. done (Truth b)) w (Went w t) same e
+    late_is p c d (λ u. see (is_instance x d) >>= λ b. pure (Truth b)) w (Went w t) same e
     ∙ ap (λ y. Went w (Truth (is_instance y d w))) (sym value)
     ∙ ap (λ y. Went w (Truth (is_instance v y w))) (sym same)
     ∙ ap (λ b. Went w (Truth b)) (sym test)

@@ -9,23 +9,23 @@ use Rattle.abc_run_names.specs.declared.runtime_names.Form.{Form}
 use Rattle.abc_run_names.specs.declared.runtime_names.Form.TheVariants as forms
 use Rattle.abc_meaning.specs.Setting.{NameForm, NoPart, NoSpace, NoText, Whole}
 
-abbrev pub form_of : Form → NameForm
-form_of (forms.Whole name) = Whole name
-form_of (forms.NoSpace text) = NoSpace text
-form_of (forms.NoText of) = NoText of
-form_of forms.NoPart = NoPart
+abbrev pub name_form_of : Form → NameForm
+name_form_of (forms.Whole name) = Whole name
+name_form_of (forms.NoSpace text) = NoSpace text
+name_form_of (forms.NoText of) = NoText of
+name_form_of forms.NoPart = NoPart
 
 abbrev pub forms_of : Option Form → Option NameForm
 forms_of None = None
-forms_of (Some f) = Some (form_of f)
+forms_of (Some f) = Some (name_form_of f)
 
 -- a form that has its text has one that is there
-abbrev pub HasText : List (List ℕ) → Heap → Option NameForm → Type 0
-HasText pool h None = Unit {0}
-HasText pool h (Some (Whole name)) = IsText pool h name.text
-HasText pool h (Some (NoSpace text)) = IsText pool h text
-HasText pool h (Some (NoText of)) = Unit {0}
-HasText pool h (Some NoPart) = Unit {0}
+abbrev pub HasFormText : List (List ℕ) → Heap → Option NameForm → Type 0
+HasFormText pool h None = Unit {0}
+HasFormText pool h (Some (Whole name)) = IsText pool h name.text
+HasFormText pool h (Some (NoSpace text)) = IsText pool h text
+HasFormText pool h (Some (NoText of)) = Unit {0}
+HasFormText pool h (Some NoPart) = Unit {0}
 
 -- the string of a name of the pool can be counted
 abbrev pub HasString : Multiname → Type 0

@@ -5,24 +5,24 @@ use Rattle.abc_heap_values.specs.declared.values.Value.{Value}
 use Rattle.abc_heap_values.specs.declared.values.Value.TheVariants.{Null, Num, Bool as Truth, Obj}
 use Rattle.abc_heap_store.specs.Heap.{obj_id}
 use Rattle.abc_frames.specs.Frame.{Frame}
-use Rattle.abc_meaning.specs.At.{Act, goes, pushed, with_local}
-use Rattle.abc_meaning.specs.Walking.{Position, has_next, name_in, next_along, object_number, position, value_in, walked}
+use Rattle.abc_meaning.specs.At.{Act, goes, after_pushes, frame_with_local}
+use Rattle.abc_meaning.specs.Walking.{Position, has_next, walked_name, next_along, object_number, position, value_in, object_of}
 use Rattle.abc_run_names.specs.declared.positions.Position.{Position as At}
 use Rattle.abc_run_state.specs.Operands.{local_at, operand_at}
-use Rattle.abc_meaning.specs.World.{Run, done, see, ◌>>=◌}
-use Rattle.abc_run_state.specs.Settling.{pushes}
+use Rattle.abc_meaning.specs.World.{Run, pure, see, ◌>>=◌}
+use Rattle.abc_run_state.specs.Settling.{pushes_instead}
 
 -- hasnext, nextname, nextvalue
 abbrev pub pushes_next : Frame → Run Act
-pushes_next f = pushes 2 f (see (has_next (operand_at 1 f) (operand_at 0 f)))
+pushes_next f = pushes_instead 2 f (see (has_next (operand_at 1 f) (operand_at 0 f)))
 
 -- nextname: the name at the position on top, of the object under it
 abbrev pub pushes_name : Frame → Run Act
-pushes_name f = pushes 2 f (see (walked (operand_at 1 f)) >>= λ ob. name_in ob (position (operand_at 0 f)))
+pushes_name f = pushes_instead 2 f (see (object_of (operand_at 1 f)) >>= λ ob. walked_name ob (position (operand_at 0 f)))
 
 -- nextvalue: the value at the position on top, of the object under it
 abbrev pub pushes_value : Frame → Run Act
-pushes_value f = pushes 2 f (see (walked (operand_at 1 f)) >>= λ ob. done (value_in ob (position (operand_at 0 f))))
+pushes_value f = pushes_instead 2 f (see (object_of (operand_at 1 f)) >>= λ ob. pure (value_in ob (position (operand_at 0 f))))
 
 -- ---- hasnext2
 
@@ -41,7 +41,7 @@ position_in None = Num (pos 0)
 position_in (Some e) = Num (pos e.position)
 
 abbrev pub walked_to : (holder position : ℕ) → Frame → Option Position → Frame
-walked_to x y f e = pushed (Truth (is_some e) ∷ []) (with_local y (position_in e) (with_local x (holder_in e) f))
+walked_to x y f e = after_pushes (Truth (is_some e) ∷ []) (frame_with_local y (position_in e) (frame_with_local x (holder_in e) f))
 
 -- one local is the object, another the position
 abbrev pub walks_on : (holder position : ℕ) → Frame → Run Act

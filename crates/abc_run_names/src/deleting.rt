@@ -3,20 +3,20 @@ ghost use Rattle.abc_heap_values.specs.declared.values.Value.TheVariants.{Obj, U
 ghost use Rattle.abc_heap_store.specs.Changes.{with_element, with_object};
 ghost use Rattle.abc_heap_store.specs.Heap.{elements_of};
 ghost use Rattle.abc_heap_store.specs.Texts.{IsText};
-ghost use Rattle.abc_frames.specs.Ready.{IsReady};
+ghost use Rattle.abc_frames.specs.Ready.{HasFrameRoom};
 ghost use Rattle.abc_objects.specs.Stands.{StandsOver};
 ghost use Rattle.abc_objects.specs.Values.{Exists, IsObject};
-ghost use Rattle.abc_objects.specs.Laws.{IsThere};
+ghost use Rattle.abc_objects.specs.Laws.{IsFoundPresent};
 ghost use Rattle.abc_frames.specs.Frame.{newest};
-ghost use Rattle.abc_run_state.specs.Outer.{Outer, setting, world};
+ghost use Rattle.abc_run_state.specs.Outer.{Outer, setting_in, world};
 ghost use Rattle.abc_run_state.specs.Standing.{IsSet, Stays};
-ghost use Rattle.abc_run_state.specs.Stops.{IsOpen, answer};
+ghost use Rattle.abc_run_state.specs.Stops.{IsOpen, part_outcome};
 ghost use Rattle.abc_meaning.specs.Members.{delete_found as found_deleted, deletes, deletes_own, is_dynamic as is_dynamic_value};
 ghost use Rattle.abc_meaning.specs.Objects.{without_property};
 ghost use Rattle.abc_meaning.specs.Setting.{is_dynamic_part as is_dynamic_of};
 ghost use Rattle.abc_meaning.specs.World.{Went, changes};
 ghost use Rattle.abc_run_names.specs.Deleted.{deletes_named};
-ghost use Rattle.abc_run_names.specs.Named.{form_at, parts_count};
+ghost use Rattle.abc_run_names.specs.Named.{name_form_at, name_parts_count};
 ghost use Rattle.abc_run_state.specs.Doing.{Does};
 
 use crate::runtime_names::{name_of, parts_of};
@@ -32,7 +32,7 @@ use abc_run_state::{State, Stop, operand};
 
 /// All objects are dynamic but activations, catch objects and instances of sealed classes.
 fn is_dynamic_part(linked: &Linked, part: Part) -> bool
-    ensures { (out : Outer) → result ≡ is_dynamic_of (setting linked.now out) part }
+    ensures { (out : Outer) → result ≡ is_dynamic_of (setting_in linked.now out) part }
 {
     match part {
         Part::Activation(_) => false,
@@ -48,7 +48,8 @@ fn is_dynamic_part(linked: &Linked, part: Part) -> bool
 fn is_dynamic_object(linked: &Linked, s: &State, o: ObjId) -> bool
     requires over { StandsOver linked.now s.now.arena }
     requires object { IsObject s.now.arena o }
-    ensures { (out : Outer) → result ≡ is_dynamic_value (setting linked.now out) (Obj o) (world s.now out) }
+    ensures { (out : Outer)
+        → result ≡ is_dynamic_value (setting_in linked.now out) (Obj o) (world s.now out) }
 {
     is_dynamic_part(linked, linked.part_of(s.arena.layout(o)))
 }
@@ -57,7 +58,7 @@ fn is_dynamic_object(linked: &Linked, s: &State, o: ObjId) -> bool
 pub fn is_dynamic(linked: &Linked, s: &State, v: Value) -> bool
     requires over { StandsOver linked.now s.now.arena }
     requires value { Exists linked.now s.now.arena v }
-    ensures { (out : Outer) → result ≡ is_dynamic_value (setting linked.now out) v (world s.now out) }
+    ensures { (out : Outer) → result ≡ is_dynamic_value (setting_in linked.now out) v (world s.now out) }
 {
     match v {
         Value::Obj(o) => is_dynamic_object(linked, s, o),
@@ -75,7 +76,9 @@ fn delete_own(linked: &Linked, s: &mut State, holder: ObjId, o: ObjId, text: Spa
     requires over { StandsOver linked.now s.old.arena }
     requires object { IsObject s.old.arena o }
     requires text { IsText linked.now.file.strings s.old.arena text }
-    ensures part { (out : Outer) → deletes_own holder o (changes (without_property (setting linked.now out) o text) (λ h. tt)) (world s.old out) ≡ Went (world s.new out) true }
+    ensures part { (out : Outer)
+        → deletes_own holder o (changes (without_property (setting_in linked.now out) o text) (λ h. tt))
+        (world s.old out) ≡ Went (world s.new out) true }
     ensures stays { Stays linked.now s.old s.new }
 {
     if holder.0 != o.0 {
@@ -88,7 +91,9 @@ fn delete_own(linked: &Linked, s: &mut State, holder: ObjId, o: ObjId, text: Spa
 fn delete_element(linked: &Linked, s: &mut State, holder: ObjId, o: ObjId, index: u32)
     requires over { StandsOver linked.now s.old.arena }
     requires index { index < length (elements_of s.old.arena.objects holder.0) }
-    ensures part { (out : Outer) → deletes_own holder o (changes (with_object (with_element index Undefined) o.0) (λ h. tt)) (world s.old out) ≡ Went (world s.new out) true }
+    ensures part { (out : Outer)
+        → deletes_own holder o (changes (with_object (with_element index Undefined) o.0) (λ h. tt))
+        (world s.old out) ≡ Went (world s.new out) true }
     ensures stays { Stays linked.now s.old s.new }
 {
     let _ = linked;
@@ -103,8 +108,10 @@ fn delete_found(linked: &Linked, s: &mut State, o: ObjId, text: Span, found: Fou
     requires over { StandsOver linked.now s.old.arena }
     requires object { IsObject s.old.arena o }
     requires text { IsText linked.now.file.strings s.old.arena text }
-    requires found { IsThere s.old.arena found }
-    ensures part { (out : Outer) → found_deleted (setting linked.now out) o text found (world s.old out) ≡ Went (world s.new out) result }
+    requires found { IsFoundPresent s.old.arena found }
+    ensures part { (out : Outer)
+        → found_deleted (setting_in linked.now out) o text found (world s.old out)
+        ≡ Went (world s.new out) result }
     ensures stays { Stays linked.now s.old s.new }
 {
     match found {
@@ -131,7 +138,9 @@ fn delete_on(linked: &Linked, s: &mut State, o: ObjId, name: &Name) -> bool
     requires over { StandsOver linked.now s.old.arena }
     requires object { IsObject s.old.arena o }
     requires text { IsText linked.now.file.strings s.old.arena name.now.text }
-    ensures part { (out : Outer) → deletes (setting linked.now out) (Obj o) name.now (world s.old out) ≡ Went (world s.new out) result }
+    ensures part { (out : Outer)
+        → deletes (setting_in linked.now out) (Obj o) name.now (world s.old out)
+        ≡ Went (world s.new out) result }
     ensures stays { Stays linked.now s.old s.new }
 {
     found_is_there();
@@ -148,7 +157,9 @@ fn delete(linked: &Linked, s: &mut State, v: Value, name: &Name) -> Result<bool,
     requires over { StandsOver linked.now s.old.arena }
     requires value { Exists linked.now s.old.arena v }
     requires text { IsText linked.now.file.strings s.old.arena name.now.text }
-    ensures part { (out : Outer) → deletes (setting linked.now out) v name.now (world s.old out) ≡ answer result (world s.new out) }
+    ensures part { (out : Outer)
+        → deletes (setting_in linked.now out) v name.now (world s.old out)
+        ≡ part_outcome result (world s.new out) }
     ensures stays { Stays linked.now s.old s.new }
 {
     match v {
@@ -166,8 +177,10 @@ fn delete(linked: &Linked, s: &mut State, v: Value, name: &Name) -> Result<bool,
 pub fn delete_property(linked: &Linked, s: &mut State, name: u32) -> Result<(), Stop>
     ghost out: { Outer }
     requires set { IsSet linked.now s.old }
-    requires ready { IsReady (parts_count (form_at (setting linked.now out) name) + 1) 1 s.old.frames }
-    requires free { IsOpen (deletes_named (setting linked.now out) name (newest s.old.frames) (world s.old out)) }
+    requires ready { HasFrameRoom (name_parts_count (name_form_at (setting_in linked.now out) name) + 1) 1
+        s.old.frames }
+    requires free { IsOpen
+        (deletes_named (setting_in linked.now out) name (newest s.old.frames) (world s.old out)) }
     ensures { Does linked.now out (λ p. deletes_named p name) s.old result s.new }
 {
     let parts = parts_of(linked, name);

@@ -1,18 +1,18 @@
 ghost use Rattle.std.specs.Prelude.{◌≡◌, Some};
-ghost use Rattle.abc_meaning.specs.Late.{is_among as is_among_delegates, is_found as is_found_value, is_instance as is_instance_value, late_type as type_late, type_of_what as type_of_kept};
+ghost use Rattle.abc_meaning.specs.Late.{is_prototype_among as is_among_delegates, is_found as is_found_value, is_instance as is_instance_value, late_type as type_late, type_of_what as type_of_kept};
 ghost use Rattle.abc_heap_values.specs.declared.values.Value.TheVariants.{Obj};
 ghost use Rattle.abc_heap_store.specs.Texts.{IsText};
-ghost use Rattle.abc_frames.specs.Ready.{IsReady};
+ghost use Rattle.abc_frames.specs.Ready.{HasFrameRoom};
 ghost use Rattle.abc_objects.specs.Stands.{IsObjectOrNone, StandsOver};
 ghost use Rattle.abc_objects.specs.Values.{Exists, IsObject};
-ghost use Rattle.abc_objects.specs.Objects.{delegate_of as delegate_number, number_of};
+ghost use Rattle.abc_objects.specs.Objects.{delegate_of as delegate_number, number_of_object};
 ghost use Rattle.abc_objects.specs.Searches.{found_on};
 ghost use Rattle.abc_objects.specs.declared.found.Want.TheVariants.{Read};
 ghost use Rattle.abc_objects.specs.declared.name.Spaces.TheVariants.{Public};
 ghost use Rattle.abc_frames.specs.Frame.{newest};
-ghost use Rattle.abc_run_state.specs.Outer.{Outer, setting, world};
+ghost use Rattle.abc_run_state.specs.Outer.{Outer, setting_in, world};
 ghost use Rattle.abc_run_state.specs.Standing.{IsSet};
-ghost use Rattle.abc_run_state.specs.Stops.{answer};
+ghost use Rattle.abc_run_state.specs.Stops.{part_outcome};
 ghost use Rattle.abc_run_state.specs.Turns.{Runs};
 ghost use Rattle.abc_meaning.specs.World.{World};
 ghost use Rattle.abc_run_names.specs.Late.{keeps_late, tests_instance, tests_late, tests_name};
@@ -34,7 +34,8 @@ use abc_run_state::{
 
 /// The type that a class object is of; what is none throws.
 fn type_of_what(linked: &Linked, what: What) -> Result<Ty, Stop>
-    ensures { (out : Outer) (w : World) → type_of_kept (setting linked.now out) what w ≡ answer result w }
+    ensures { (out : Outer) (w : World)
+        → type_of_kept (setting_in linked.now out) what w ≡ part_outcome result w }
 {
     match what {
         What::ClassObject { class, .. } => Ok(class_type(linked, class)),
@@ -46,7 +47,9 @@ fn type_of_what(linked: &Linked, what: What) -> Result<Ty, Stop>
 /// The type that an object is a class object of.
 fn type_of_object(linked: &Linked, s: &State, o: ObjId) -> Result<Ty, Stop>
     requires { IsObject s.now.arena o }
-    ensures { (out : Outer) → type_late (setting linked.now out) (Obj o) (world s.now out) ≡ answer result (world s.now out) }
+    ensures { (out : Outer)
+        → type_late (setting_in linked.now out) (Obj o) (world s.now out)
+        ≡ part_outcome result (world s.now out) }
 {
     type_of_what(linked, s.arena.what(o))
 }
@@ -54,7 +57,8 @@ fn type_of_object(linked: &Linked, s: &State, o: ObjId) -> Result<Ty, Stop>
 /// The type that a value is a class object of.
 fn late_type(linked: &Linked, s: &State, v: Value) -> Result<Ty, Stop>
     requires { Exists linked.now s.now.arena v }
-    ensures { (out : Outer) → type_late (setting linked.now out) v (world s.now out) ≡ answer result (world s.now out) }
+    ensures { (out : Outer)
+        → type_late (setting_in linked.now out) v (world s.now out) ≡ part_outcome result (world s.now out) }
 {
     match v {
         Value::Obj(o) => type_of_object(linked, s, o),
@@ -70,8 +74,10 @@ fn late_type(linked: &Linked, s: &State, v: Value) -> Result<Ty, Stop>
 /// `astypelate`: the value, or null where it is not of the type that the class object on top is of.
 pub fn as_late(linked: &Linked, s: &mut State) -> Result<(), Stop>
     requires set { IsSet linked.now s.old }
-    requires ready { IsReady 2 1 s.old.frames }
-    ensures runs { (out : Outer) → Runs linked.now out (keeps_late (setting linked.now out) (newest s.old.frames)) s.old result s.new }
+    requires ready { HasFrameRoom 2 1 s.old.frames }
+    ensures runs { (out : Outer)
+        → Runs linked.now out (keeps_late (setting_in linked.now out) (newest s.old.frames)) s.old result
+        s.new }
     ensures limit { s.new.given.limit ≡ s.old.given.limit }
 {
     let v = operand(&s.frames, 1);
@@ -85,8 +91,10 @@ pub fn as_late(linked: &Linked, s: &mut State) -> Result<(), Stop>
 /// `istypelate`.
 pub fn is_late(linked: &Linked, s: &mut State) -> Result<(), Stop>
     requires set { IsSet linked.now s.old }
-    requires ready { IsReady 2 1 s.old.frames }
-    ensures runs { (out : Outer) → Runs linked.now out (tests_late (setting linked.now out) (newest s.old.frames)) s.old result s.new }
+    requires ready { HasFrameRoom 2 1 s.old.frames }
+    ensures runs { (out : Outer)
+        → Runs linked.now out (tests_late (setting_in linked.now out) (newest s.old.frames)) s.old result
+        s.new }
     ensures limit { s.new.given.limit ≡ s.old.given.limit }
 {
     let v = operand(&s.frames, 1);
@@ -100,8 +108,10 @@ pub fn is_late(linked: &Linked, s: &mut State) -> Result<(), Stop>
 /// `instanceof`: whether the prototype of the class object on top is among the delegates of the value.
 pub fn is_instance_of(linked: &Linked, s: &mut State) -> Result<(), Stop>
     requires set { IsSet linked.now s.old }
-    requires ready { IsReady 2 1 s.old.frames }
-    ensures runs { (out : Outer) → Runs linked.now out (tests_instance (setting linked.now out) (newest s.old.frames)) s.old result s.new }
+    requires ready { HasFrameRoom 2 1 s.old.frames }
+    ensures runs { (out : Outer)
+        → Runs linked.now out (tests_instance (setting_in linked.now out) (newest s.old.frames)) s.old result
+        s.new }
     ensures limit { s.new.given.limit ≡ s.old.given.limit }
 {
     let v = operand(&s.frames, 1);
@@ -132,7 +142,7 @@ fn is_instance(linked: &Linked, s: &State, v: Value, class: Value) -> bool
 fn delegate_of(linked: &Linked, s: &State, v: Value) -> Option<ObjId>
     requires over { StandsOver linked.now s.now.arena }
     requires value { Exists linked.now s.now.arena v }
-    ensures is { number_of result ≡ delegate_number s.now.arena v }
+    ensures is { number_of_object result ≡ delegate_number s.now.arena v }
     ensures there { IsObjectOrNone s.now.arena result }
 {
     match v {
@@ -189,7 +199,7 @@ fn is_found(found: Found) -> bool
 pub fn has_name(linked: &Linked, s: &mut State) -> Result<(), Stop>
     ghost out: { Outer }
     requires set { IsSet linked.now s.old }
-    requires ready { IsReady 2 1 s.old.frames }
+    requires ready { HasFrameRoom 2 1 s.old.frames }
     ensures { Does linked.now out (λ p. tests_name p) s.old result s.new }
 {
     let name = operand(&s.frames, 1);

@@ -3,8 +3,8 @@ ghost use Rattle.abc_base_graphs.specs.Ways.{way};
 ghost use Rattle.abc_heap_store.specs.Properties.{place_after};
 ghost use Rattle.abc_objects.specs.Stands.{IsObjectOrNone, StandsOver};
 ghost use Rattle.abc_objects.specs.Values.{IsObject};
-ghost use Rattle.abc_objects.specs.Objects.{delegate_at, number_of};
-ghost use Rattle.abc_run_names.specs.Walking.{CanWalk, IsPlace, first_position, next_along_from, next_in, number_or_zero, position_of, value_in, value_or_undefined, walked};
+ghost use Rattle.abc_objects.specs.Objects.{delegate_at, number_of_object};
+ghost use Rattle.abc_run_names.specs.Walking.{CanWalk, IsWalkPlace, first_position, next_along_from, next_position, position_number, position_of, value_at_position, found_or_undefined, object_of_value};
 
 use abc_heap_values::{ObjId, Value};
 use abc_link::Linked;
@@ -34,7 +34,7 @@ fn number_in(v: Value) -> i64
 
 /// The position to go on from: that of a number from 0 on, and 0 of all else.
 pub fn place_of(v: Value) -> u32
-    requires { IsPlace v }
+    requires { IsWalkPlace v }
     ensures { result ≡ position_of v }
 {
     match v {
@@ -49,7 +49,7 @@ pub fn place_of(v: Value) -> u32
 }
 
 fn number_or_none(position: Option<u32>) -> Value
-    ensures { result ≡ number_or_zero position }
+    ensures { result ≡ position_number position }
 {
     match position {
         Some(k) => Value::Num(i64::from(k)),
@@ -61,7 +61,8 @@ fn number_or_none(position: Option<u32>) -> Value
 #[tactic(auto, using(crate::proofs::Delegates::next_there))]
 pub fn has_next(arena: &Arena, object: Value, after: Value) -> Value
     requires { CanWalk arena.now object }
-    ensures { result ≡ number_or_zero (next_in (walked arena.now object) (position_of after)) }
+    ensures { result
+        ≡ position_number (next_position (object_of_value arena.now object) (position_of after)) }
 {
     match object {
         Value::Obj(o) => number_or_none(arena.next_position(o, number_in(after))),
@@ -75,7 +76,7 @@ pub fn has_next(arena: &Arena, object: Value, after: Value) -> Value
 }
 
 fn or_undefined(value: Option<Value>) -> Value
-    ensures { result ≡ value_or_undefined value }
+    ensures { result ≡ found_or_undefined value }
 {
     match value {
         Some(v) => v,
@@ -87,8 +88,8 @@ fn or_undefined(value: Option<Value>) -> Value
 #[tactic(auto, using(crate::proofs::Delegates::value_there))]
 pub fn value_at(arena: &Arena, object: Value, at: Value) -> Value
     requires object { CanWalk arena.now object }
-    requires at { IsPlace at }
-    ensures { result ≡ value_in (walked arena.now object) (position_of at) }
+    requires at { IsWalkPlace at }
+    ensures { result ≡ value_at_position (object_of_value arena.now object) (position_of at) }
 {
     match object {
         Value::Obj(o) => or_undefined(arena.value_at(o, place_of(at))),
@@ -105,7 +106,7 @@ pub fn value_at(arena: &Arena, object: Value, at: Value) -> Value
 fn first_along(linked: &Linked, arena: &Arena, first: Option<ObjId>) -> Option<Position>
     requires over { StandsOver linked.now arena.now }
     requires inside { IsObjectOrNone arena.now first }
-    ensures { result ≡ first_position arena.now (way (delegate_at arena.now) (number_of first)) }
+    ensures { result ≡ first_position arena.now (way (delegate_at arena.now) (number_of_object first)) }
 {
     let _ = linked;
     let mut holder = first;

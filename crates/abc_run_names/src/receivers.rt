@@ -1,9 +1,9 @@
 ghost use Rattle.std.specs.Prelude.{◌≡◌, IfOk};
 ghost use Rattle.abc_heap_values.specs.declared.values.Value.TheVariants.{Obj};
-ghost use Rattle.abc_run_state.specs.Stops.{answer};
+ghost use Rattle.abc_run_state.specs.Stops.{part_outcome};
 ghost use Rattle.abc_meaning.specs.Members.{with_holder};
-ghost use Rattle.abc_meaning.specs.World.{World, done};
-ghost use Rattle.abc_run_names.specs.Receivers.{IsReceiver, receiver_of};
+ghost use Rattle.abc_meaning.specs.World.{World, pure};
+ghost use Rattle.abc_run_names.specs.Receivers.{IsReceiver, receiver_object};
 
 use abc_base::HostClass;
 use abc_heap_values::{ObjId, Value};
@@ -11,7 +11,7 @@ use abc_run_state::Stop;
 
 /// Null and undefined have nothing.
 pub fn is_holder(v: Value) -> Result<(), Stop>
-    ensures { (w : World) → with_holder v (done tt) w ≡ answer result w }
+    ensures { (w : World) → with_holder v (pure tt) w ≡ part_outcome result w }
 {
     match v {
         Value::Undefined => Err(Stop::Errs(HostClass::TypeError)),
@@ -27,7 +27,7 @@ pub fn is_holder(v: Value) -> Result<(), Stop>
 /// The object that a receiver is; null throws.
 pub fn receiver(v: Value) -> Result<ObjId, Stop>
     requires { IsReceiver v }
-    ensures is { (w : World) → receiver_of v w ≡ answer result w }
+    ensures is { (w : World) → receiver_object v w ≡ part_outcome result w }
     ensures object { IfOk result (λ o. v ≡ Obj o) }
 {
     match v {

@@ -4,14 +4,14 @@ ghost use Rattle.abc_heap_store.specs.Texts.{IsText};
 ghost use Rattle.abc_objects.specs.Stands.{StandsOver};
 ghost use Rattle.abc_objects.specs.Values.{Exists};
 ghost use Rattle.abc_frames.specs.Frame.{newest};
-ghost use Rattle.abc_meaning.specs.Names.{named, space_of};
-ghost use Rattle.abc_run_state.specs.Outer.{Outer, setting, world};
+ghost use Rattle.abc_meaning.specs.Names.{name_by_form, space_of};
+ghost use Rattle.abc_run_state.specs.Outer.{Outer, setting_in, world};
 ghost use Rattle.abc_run_state.specs.Standing.{IsSet, Stays};
-ghost use Rattle.abc_run_state.specs.Stops.{IsOpen, answer};
-ghost use Rattle.abc_meaning.specs.Setting.{NoPart, NoSpace, NoText, Setting, Whole, name_form, spaces_of as spaces_named};
-ghost use Rattle.abc_run_names.specs.Form.{HasString, HasText, form_of as form_in, forms_of};
+ghost use Rattle.abc_run_state.specs.Stops.{IsOpen, part_outcome};
+ghost use Rattle.abc_meaning.specs.Setting.{NoPart, NoSpace, NoText, Setting, Whole, name_form, spaces_for as spaces_named};
+ghost use Rattle.abc_run_names.specs.Form.{HasString, HasFormText, name_form_of as form_in, forms_of};
 ghost use Rattle.abc_meaning.specs.World.{World};
-ghost use Rattle.abc_run_names.specs.Named.{HasParts, IsSpaceOrNull, form_at, named_here, parts_count, parts_for};
+ghost use Rattle.abc_run_names.specs.Named.{HasNameParts, IsSpaceOrNull, name_form_at, named_here, name_parts_count, parts_for};
 
 use abc_base::HostClass;
 use abc_file_types::Multiname;
@@ -51,7 +51,7 @@ fn unless_attribute(attribute: bool, form: Form) -> Option<Form>
 #[inline(always)]
 fn form_of(linked: &Linked, name: &Multiname) -> Option<Form>
     requires { HasString name.now }
-    ensures { (out : Outer) → forms_of result ≡ name_form (setting linked.now out) name.now }
+    ensures { (out : Outer) → forms_of result ≡ name_form (setting_in linked.now out) name.now }
 {
     match name {
         Multiname::QName { attr, ns, name } => {
@@ -79,7 +79,7 @@ fn form_of(linked: &Linked, name: &Multiname) -> Option<Form>
 /// What the name that an instruction names leaves.
 #[inline(always)]
 fn form_named(linked: &Linked, name: u32) -> Option<Form>
-    ensures { (out : Outer) → forms_of result ≡ form_at (setting linked.now out) name }
+    ensures { (out : Outer) → forms_of result ≡ name_form_at (setting_in linked.now out) name }
 {
     if name == 0 {
         return None;
@@ -106,7 +106,8 @@ fn whole_of(form: Form) -> Option<Name>
 #[inline(always)]
 pub fn whole_name(linked: &Linked, name: u32) -> Option<Name>
     ghost out: { Outer }
-    ensures form { MatchOption result (Unit {0}) (λ x. form_at (setting linked.now out) name ≡ Some (Whole x)) }
+    ensures form { MatchOption result (Unit {0})
+        (λ x. name_form_at (setting_in linked.now out) name ≡ Some (Whole x)) }
     ensures text { (h : Heap) → MatchOption result (Unit {0}) (λ x. IsText linked.now.file.strings h x.text) }
 {
     match form_named(linked, name) {
@@ -130,7 +131,8 @@ fn spaces_in(form: Form) -> Option<Spaces>
 #[inline(always)]
 pub fn late_text(linked: &Linked, name: u32) -> Option<Spaces>
     ghost out: { Outer }
-    ensures { MatchOption result (Unit {0}) (λ of. form_at (setting linked.now out) name ≡ Some (NoText of)) }
+    ensures { MatchOption result (Unit {0})
+        (λ of. name_form_at (setting_in linked.now out) name ≡ Some (NoText of)) }
 {
     match form_named(linked, name) {
         Some(form) => spaces_in(form),
@@ -148,7 +150,7 @@ fn parts_unless(attribute: bool, parts: u32) -> u32
 /// How many parts a name takes at run time, by what it is.
 #[inline(always)]
 fn parts_in(name: &Multiname) -> u32
-    ensures { (p : Setting) → result ≡ parts_count (name_form p name.now) }
+    ensures { (p : Setting) → result ≡ name_parts_count (name_form p name.now) }
 {
     match name {
         Multiname::QName { .. } => 0,
@@ -163,7 +165,7 @@ fn parts_in(name: &Multiname) -> u32
 /// How many parts a name takes at run time.
 #[inline(always)]
 pub fn parts_of(linked: &Linked, name: u32) -> u32
-    ensures { (out : Outer) → result ≡ parts_count (form_at (setting linked.now out) name) }
+    ensures { (out : Outer) → result ≡ name_parts_count (name_form_at (setting_in linked.now out) name) }
 {
     if name == 0 {
         return 0;
@@ -177,7 +179,7 @@ pub fn parts_of(linked: &Linked, name: u32) -> u32
 /// The namespace that comes at run time; null throws.
 fn space_in(v: Value) -> Result<Spaces, Stop>
     requires { IsSpaceOrNull v }
-    ensures { (w : World) → space_of v w ≡ answer result w }
+    ensures { (w : World) → space_of v w ≡ part_outcome result w }
 {
     match v {
         Value::Space(n) => Ok(Spaces::One(n)),
@@ -194,7 +196,8 @@ fn space_in(v: Value) -> Result<Spaces, Stop>
 fn with_space(text: Span, space: Value) -> Result<Name, Stop>
     requires { IsSpaceOrNull space }
     ensures text { IfOk result (λ n. n.text ≡ text) }
-    ensures part { (p : Setting) (w : World) → named p (Some (NoSpace text)) (space ∷ []) w ≡ answer result w }
+    ensures part { (p : Setting) (w : World)
+        → name_by_form p (Some (NoSpace text)) (space ∷ []) w ≡ part_outcome result w }
 {
     let spaces = space_in(space)?;
     Ok(Name { spaces, text })
@@ -206,7 +209,8 @@ pub fn with_text(linked: &Linked, s: &mut State, spaces: Spaces, text: Value) ->
     ghost out: { Outer }
     requires over { StandsOver linked.now s.old.arena }
     requires text { Exists linked.now s.old.arena text }
-    ensures part { named (setting linked.now out) (Some (NoText spaces)) (text ∷ []) (world s.old out) ≡ answer result (world s.new out) }
+    ensures part { name_by_form (setting_in linked.now out) (Some (NoText spaces)) (text ∷ [])
+        (world s.old out) ≡ part_outcome result (world s.new out) }
     ensures stays { Stays linked.now s.old s.new }
     ensures there { IfOk result (λ n. IsText linked.now.file.strings s.new.arena n.text) }
 {
@@ -219,8 +223,10 @@ fn with_both(linked: &Linked, s: &mut State, text: Value, space: Value) -> Resul
     ghost out: { Outer }
     requires over { StandsOver linked.now s.old.arena }
     requires text { Exists linked.now s.old.arena text }
-    requires free { IsOpen (named (setting linked.now out) (Some NoPart) (text ∷ space ∷ []) (world s.old out)) }
-    ensures part { named (setting linked.now out) (Some NoPart) (text ∷ space ∷ []) (world s.old out) ≡ answer result (world s.new out) }
+    requires free { IsOpen
+        (name_by_form (setting_in linked.now out) (Some NoPart) (text ∷ space ∷ []) (world s.old out)) }
+    ensures part { name_by_form (setting_in linked.now out) (Some NoPart) (text ∷ space ∷ [])
+        (world s.old out) ≡ part_outcome result (world s.new out) }
     ensures stays { Stays linked.now s.old s.new }
     ensures there { IfOk result (λ n. IsText linked.now.file.strings s.new.arena n.text) }
 {
@@ -235,10 +241,13 @@ fn name_from(linked: &Linked, s: &mut State, form: Form, above: u32) -> Result<N
     ghost out: { Outer }
     requires set { IsSet linked.now s.old }
     requires above { above < 2 ^ 30 }
-    requires text { HasText linked.now.file.strings s.old.arena (Some (form_in form)) }
-    requires parts { HasParts (Some (form_in form)) above (newest s.old.frames) }
-    requires free { IsOpen (named (setting linked.now out) (Some (form_in form)) (parts_for (Some (form_in form)) above (newest s.old.frames)) (world s.old out)) }
-    ensures part { named (setting linked.now out) (Some (form_in form)) (parts_for (Some (form_in form)) above (newest s.old.frames)) (world s.old out) ≡ answer result (world s.new out) }
+    requires text { HasFormText linked.now.file.strings s.old.arena (Some (form_in form)) }
+    requires parts { HasNameParts (Some (form_in form)) above (newest s.old.frames) }
+    requires free { IsOpen (name_by_form (setting_in linked.now out) (Some (form_in form))
+        (parts_for (Some (form_in form)) above (newest s.old.frames)) (world s.old out)) }
+    ensures part { name_by_form (setting_in linked.now out) (Some (form_in form))
+        (parts_for (Some (form_in form)) above (newest s.old.frames)) (world s.old out)
+        ≡ part_outcome result (world s.new out) }
     ensures stays { Stays linked.now s.old s.new }
     ensures there { IfOk result (λ n. IsText linked.now.file.strings s.new.arena n.text) }
 {
@@ -266,9 +275,12 @@ pub fn name_of(linked: &Linked, s: &mut State, name: u32, above: u32) -> Result<
     ghost out: { Outer }
     requires set { IsSet linked.now s.old }
     requires above { above < 2 ^ 30 }
-    requires parts { HasParts (form_at (setting linked.now out) name) above (newest s.old.frames) }
-    requires free { IsOpen (named_here (setting linked.now out) name above (newest s.old.frames) (world s.old out)) }
-    ensures part { named_here (setting linked.now out) name above (newest s.old.frames) (world s.old out) ≡ answer result (world s.new out) }
+    requires parts { HasNameParts (name_form_at (setting_in linked.now out) name) above
+        (newest s.old.frames) }
+    requires free { IsOpen
+        (named_here (setting_in linked.now out) name above (newest s.old.frames) (world s.old out)) }
+    ensures part { named_here (setting_in linked.now out) name above (newest s.old.frames) (world s.old out)
+        ≡ part_outcome result (world s.new out) }
     ensures stays { Stays linked.now s.old s.new }
     ensures there { IfOk result (λ n. IsText linked.now.file.strings s.new.arena n.text) }
 {

@@ -1,13 +1,13 @@
 ghost use Rattle.std.specs.Prelude.{◌≡◌, ◌<◌, IsSome, Some, length};
-ghost use Rattle.abc_heap_store.specs.Heap.{object_at, slots_of as slots_of_object};
-ghost use Rattle.abc_frames.specs.Ready.{IsReady};
+ghost use Rattle.abc_heap_store.specs.Heap.{object_at, slots_of_object};
+ghost use Rattle.abc_frames.specs.Ready.{HasFrameRoom};
 ghost use Rattle.abc_objects.specs.Stands.{StandsOver};
 ghost use Rattle.abc_objects.specs.Values.{Exists, IsObject};
 ghost use Rattle.abc_link_names.specs.Slots.{slot_numbered};
 ghost use Rattle.abc_frames.specs.Frame.{newest};
-ghost use Rattle.abc_run_state.specs.Outer.{Outer, setting, world};
+ghost use Rattle.abc_run_state.specs.Outer.{Outer, setting_in, world};
 ghost use Rattle.abc_run_state.specs.Standing.{IsSet, Stays};
-ghost use Rattle.abc_run_state.specs.Stops.{IsOpen, answer};
+ghost use Rattle.abc_run_state.specs.Stops.{IsOpen, part_outcome};
 ghost use Rattle.abc_meaning.specs.Members.{write_slot as slot_written};
 ghost use Rattle.abc_run_names.specs.Numbered.{reads_numbered, slot_type, writes_numbered};
 ghost use Rattle.abc_run_state.specs.Doing.{Does};
@@ -35,7 +35,8 @@ pub fn write_slot(linked: &Linked, s: &mut State, o: ObjId, k: u32, v: Value) ->
     requires over { StandsOver linked.now s.old.arena }
     requires slot { k < length (slots_of_object s.old.arena.objects o.0) }
     requires value { Exists linked.now s.old.arena v }
-    ensures part { slot_written (setting linked.now out) o k v (world s.old out) ≡ answer result (world s.new out) }
+    ensures part { slot_written (setting_in linked.now out) o k v (world s.old out)
+        ≡ part_outcome result (world s.new out) }
     ensures stays { Stays linked.now s.old s.new }
 {
     let ty = type_of_slot(linked, s, o, k);
@@ -61,8 +62,9 @@ fn place_of(linked: &Linked, s: &State, o: ObjId, number: u32) -> u32
 pub fn get_slot(linked: &Linked, s: &mut State, number: u32) -> Result<(), Stop>
     ghost out: { Outer }
     requires set { IsSet linked.now s.old }
-    requires ready { IsReady 1 1 s.old.frames }
-    requires free { IsOpen (reads_numbered (setting linked.now out) number (newest s.old.frames) (world s.old out)) }
+    requires ready { HasFrameRoom 1 1 s.old.frames }
+    requires free { IsOpen
+        (reads_numbered (setting_in linked.now out) number (newest s.old.frames) (world s.old out)) }
     ensures { Does linked.now out (λ p. reads_numbered p number) s.old result s.new }
 {
     let v = operand(&s.frames, 0);
@@ -77,8 +79,9 @@ pub fn get_slot(linked: &Linked, s: &mut State, number: u32) -> Result<(), Stop>
 pub fn set_slot(linked: &Linked, s: &mut State, number: u32) -> Result<(), Stop>
     ghost out: { Outer }
     requires set { IsSet linked.now s.old }
-    requires ready { IsReady 2 0 s.old.frames }
-    requires free { IsOpen (writes_numbered (setting linked.now out) number (newest s.old.frames) (world s.old out)) }
+    requires ready { HasFrameRoom 2 0 s.old.frames }
+    requires free { IsOpen
+        (writes_numbered (setting_in linked.now out) number (newest s.old.frames) (world s.old out)) }
     ensures { Does linked.now out (λ p. writes_numbered p number) s.old result s.new }
 {
     let v = operand(&s.frames, 1);

@@ -4,9 +4,9 @@ ghost use Rattle.abc_heap_store.specs.Properties.{at_position, element_at, the_n
 ghost use Rattle.abc_heap_store.specs.What.{is_array};
 ghost use Rattle.abc_objects.specs.Stands.{StandsOver};
 ghost use Rattle.abc_objects.specs.Values.{IsObject};
-ghost use Rattle.abc_ops.specs.Left.{Leaves};
+ghost use Rattle.abc_ops.specs.Left.{LeavesHeap};
 ghost use Rattle.abc_link_names.specs.Linked.{LinkedFile};
-ghost use Rattle.abc_run_names.specs.Walking.{CanWalk, IsPlace, element_named, named_in, position_of, text_or_null, walked};
+ghost use Rattle.abc_run_names.specs.Walking.{CanWalk, IsWalkPlace, element_named, named_in, position_of, name_text_or_null, object_of_value};
 
 use crate::positions::place_of;
 use abc_heap_values::{ObjId, Value};
@@ -17,7 +17,9 @@ use abc_ops::OpEnd;
 fn element_name(arena: &mut Arena, array: ObjId, position: u32) -> Result<Value, OpEnd>
     requires inside { IsObject arena.old array }
     requires elements { is_array (object_at arena.old.objects array.0).what ≡ true }
-    ensures named { Leaves (element_named arena.old position (element_at (elements_of arena.old.objects array.0) position)) result arena.new }
+    ensures named { LeavesHeap
+        (element_named arena.old position (element_at (elements_of arena.old.objects array.0) position))
+        result arena.new }
     ensures over { (l : LinkedFile) → StandsOver l arena.old → StandsOver l arena.new }
 {
     match arena.value_at(array, position) {
@@ -33,7 +35,8 @@ fn element_name(arena: &mut Arena, array: ObjId, position: u32) -> Result<Value,
 fn property_name(arena: &Arena, o: ObjId, position: u32) -> Value
     requires inside { IsObject arena.now o }
     requires named { is_array (object_at arena.now.objects o.0).what ≡ false }
-    ensures { result ≡ text_or_null (the_name (at_position (properties_of arena.now.objects o.0) position)) }
+    ensures { result
+        ≡ name_text_or_null (the_name (at_position (properties_of arena.now.objects o.0) position)) }
 {
     match arena.name_at(o, position) {
         Some(name) => Value::Text(name),
@@ -45,8 +48,9 @@ fn property_name(arena: &Arena, o: ObjId, position: u32) -> Value
 /// is made: `Full` of texts where it has no room.
 pub fn name_at(arena: &mut Arena, object: Value, at: Value) -> Result<Value, OpEnd>
     requires object { CanWalk arena.old object }
-    requires at { IsPlace at }
-    ensures named { Leaves (named_in arena.old (walked arena.old object) (position_of at)) result arena.new }
+    requires at { IsWalkPlace at }
+    ensures named { LeavesHeap (named_in arena.old (object_of_value arena.old object) (position_of at)) result
+        arena.new }
     ensures over { (l : LinkedFile) → StandsOver l arena.old → StandsOver l arena.new }
 {
     match object {

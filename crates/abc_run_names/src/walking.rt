@@ -1,6 +1,6 @@
 ghost use Rattle.std.specs.Prelude.{◌≡◌, ◌<◌, length};
 ghost use Rattle.abc_meaning.specs.Walking.{next_along as next_along_of, object_number, position};
-ghost use Rattle.abc_frames.specs.Ready.{IsReady};
+ghost use Rattle.abc_frames.specs.Ready.{HasFrameRoom};
 ghost use Rattle.abc_objects.specs.Stands.{StandsOver};
 ghost use Rattle.abc_objects.specs.Values.{Exists};
 ghost use Rattle.abc_frames.specs.Frame.{newest};
@@ -19,8 +19,9 @@ use abc_run_state::{State, Stop, local, operand};
 /// `hasnext`.
 pub fn walk_one(linked: &Linked, s: &mut State) -> Result<(), Stop>
     requires set { IsSet linked.now s.old }
-    requires ready { IsReady 2 1 s.old.frames }
-    ensures runs { (out : Outer) → Runs linked.now out (pushes_next (newest s.old.frames)) s.old result s.new }
+    requires ready { HasFrameRoom 2 1 s.old.frames }
+    ensures runs { (out : Outer)
+        → Runs linked.now out (pushes_next (newest s.old.frames)) s.old result s.new }
     ensures limit { s.new.given.limit ≡ s.old.given.limit }
 {
     let _ = linked;
@@ -34,8 +35,9 @@ pub fn walk_one(linked: &Linked, s: &mut State) -> Result<(), Stop>
 /// `nextname`.
 pub fn next_name(linked: &Linked, s: &mut State) -> Result<(), Stop>
     requires set { IsSet linked.now s.old }
-    requires ready { IsReady 2 1 s.old.frames }
-    ensures runs { (out : Outer) → Runs linked.now out (pushes_name (newest s.old.frames)) s.old result s.new }
+    requires ready { HasFrameRoom 2 1 s.old.frames }
+    ensures runs { (out : Outer)
+        → Runs linked.now out (pushes_name (newest s.old.frames)) s.old result s.new }
     ensures limit { s.new.given.limit ≡ s.old.given.limit }
 {
     let _ = linked;
@@ -53,8 +55,9 @@ pub fn next_name(linked: &Linked, s: &mut State) -> Result<(), Stop>
 /// `nextvalue`.
 pub fn next_value(linked: &Linked, s: &mut State) -> Result<(), Stop>
     requires set { IsSet linked.now s.old }
-    requires ready { IsReady 2 1 s.old.frames }
-    ensures runs { (out : Outer) → Runs linked.now out (pushes_value (newest s.old.frames)) s.old result s.new }
+    requires ready { HasFrameRoom 2 1 s.old.frames }
+    ensures runs { (out : Outer)
+        → Runs linked.now out (pushes_value (newest s.old.frames)) s.old result s.new }
     ensures limit { s.new.given.limit ≡ s.old.given.limit }
 {
     let _ = linked;
@@ -99,10 +102,11 @@ fn number_of(next: Option<Position>) -> Value
 /// `hasnext2`: one local is the object, and another the position.
 pub fn walk_on(linked: &Linked, s: &mut State, holder: u32, position: u32) -> Result<(), Stop>
     requires set { IsSet linked.now s.old }
-    requires ready { IsReady 0 1 s.old.frames }
+    requires ready { HasFrameRoom 0 1 s.old.frames }
     requires holder { holder < length (newest s.old.frames).locals }
     requires position { position < length (newest s.old.frames).locals }
-    ensures runs { (out : Outer) → Runs linked.now out (walks_on holder position (newest s.old.frames)) s.old result s.new }
+    ensures runs { (out : Outer)
+        → Runs linked.now out (walks_on holder position (newest s.old.frames)) s.old result s.new }
     ensures limit { s.new.given.limit ≡ s.old.given.limit }
 {
     let object = local(&s.frames, holder);

@@ -7,10 +7,10 @@ use Rattle.abc_heap_values.specs.declared.values.ObjId.{ObjId}
 use Rattle.abc_heap_values.specs.declared.values.Span.{Span}
 use Rattle.abc_heap_values.specs.declared.values.Value.{Value}
 use Rattle.abc_heap_values.specs.declared.values.Value.TheVariants.{Obj}
-use Rattle.abc_heap_store.specs.Changes.{IsArrayMade, IsClassMade, IsFunctionMade, IsMade, bare, with_array, with_class, with_made, with_more_elements, with_more_slots, with_object, with_scopes, with_slot}
-use Rattle.abc_heap_store.specs.Heap.{Fits, Heap, IsFull, IsFullOf, Object, cells_used, obj_id}
+use Rattle.abc_heap_store.specs.Changes.{IsArrayMade, IsClassMade, IsFunctionMade, IsMade, bare_object, with_array, with_class, with_made, with_more_elements, with_more_slots, with_object, with_scopes, with_slot}
+use Rattle.abc_heap_store.specs.Heap.{FitsCells, Heap, IsFull, IsFullOf, Object, cells_used, obj_id}
 use Rattle.abc_heap_store.specs.Properties.{cells_to_put, with_put}
-use Rattle.abc_heap_store.specs.Scopes.{scope_id, top}
+use Rattle.abc_heap_store.specs.Scopes.{scope_id, top_of_scopes}
 use Rattle.abc_heap_store.specs.declared.records.Full.{Full}
 use Rattle.abc_heap_store.specs.declared.records.Limit.TheVariants as limits
 use Rattle.abc_heap_store.specs.declared.records.ScopeEntry.{ScopeEntry}
@@ -32,7 +32,7 @@ use Rattle.abc_link_names.specs.declared.part.Part.{Part}
 use Rattle.abc_link_names.specs.declared.part.Part.TheVariants as parts
 use Rattle.abc_objects.specs.Objects.{host_prototype}
 use Rattle.abc_run_state.specs.Outer.{at_heap}
-use Rattle.abc_meaning.specs.Objects.{new_array, new_class, new_function, new_id, new_object, own_place, prototype_for, set_property, with_function, with_property}
+use Rattle.abc_meaning.specs.Objects.{new_array, new_class, new_function, new_id, new_object, own_place, prototype_for, set_property, with_function, heap_with_property}
 use Rattle.abc_meaning.specs.Setting.{Setting}
 use Rattle.abc_meaning.specs.World.{Fills, Stopped, Went, World, changes, see, ◌>>=◌}
 use Rattle.abc_run_state.proofs.Rooms.{cells_full, cells_ok, changes_to, made_full, made_ok}
@@ -56,10 +56,10 @@ pub there_last : (old new : Heap) (ob : Object) (o : ObjId) → o.0 ≡ length o
 there_last old new ob o n e = omega (arith, n, ap (λ (obs : List Object). length obs) e, length-append old.objects (ob ∷ []))
 
 pub object_grows : (old new : Heap) (o : ObjId) (vs : List Value) (x : ℕ) (d : Option ObjId) (what : What) → IsMade old new o vs x d what → Grows old new
-object_grows old new o vs x d what m = subst (Grows old) (sym m.heap) (added_grows old (with_more_slots vs (bare x d what)))
+object_grows old new o vs x d what m = subst (Grows old) (sym m.heap) (added_grows old (with_more_slots vs (bare_object x d what)))
 
 pub object_there : (old new : Heap) (o : ObjId) (vs : List Value) (x : ℕ) (d : Option ObjId) (what : What) → IsMade old new o vs x d what → IsObject new o
-object_there old new o vs x d what m = there_last old new (with_more_slots vs (bare x d what)) o m.number (ap (λ (h : Heap). h.objects) m.heap)
+object_there old new o vs x d what m = there_last old new (with_more_slots vs (bare_object x d what)) o m.number (ap (λ (h : Heap). h.objects) m.heap)
 
 -- ---- layouts: that of a part is no other's
 
@@ -83,10 +83,10 @@ pub array_full : (p : Setting) (w : World) (vs : List Value) (new : Heap) (e : F
 array_full p w vs new e f = made_full w 1 (length vs) (see (prototype_for hosts.Array) >>= λ d. changes (with_array vs (array_layout p.linked) d) new_id) new e f
 
 pub array_grows : (old new : Heap) (o : ObjId) (vs : List Value) (x : ℕ) (d : Option ObjId) → IsArrayMade old new o vs x d → Grows old new
-array_grows old new o vs x d m = subst (Grows old) (sym m.heap) (added_grows old (with_more_elements vs (bare x d whats.Array)))
+array_grows old new o vs x d m = subst (Grows old) (sym m.heap) (added_grows old (with_more_elements vs (bare_object x d whats.Array)))
 
 pub array_there : (old new : Heap) (o : ObjId) (vs : List Value) (x : ℕ) (d : Option ObjId) → IsArrayMade old new o vs x d → IsObject new o
-array_there old new o vs x d m = there_last old new (with_more_elements vs (bare x d whats.Array)) o m.number (ap (λ (h : Heap). h.objects) m.heap)
+array_there old new o vs x d m = there_last old new (with_more_elements vs (bare_object x d whats.Array)) o m.number (ap (λ (h : Heap). h.objects) m.heap)
 
 -- ---- functions
 
@@ -115,11 +115,11 @@ function_full_by p w method home home' saved saved' es es' new e eh es_is ee f =
 
 pub function_grows : (old new : Heap) (o : ObjId) (vs : List Value) (x method home : ℕ) (d : Option ObjId) (saved : Option ScopeId) (es : List ScopeEntry) → IsFunctionMade old new o vs x method home d saved es → Grows old new
 function_grows old new o vs x method home d saved es m =
-    let ob = with_more_slots vs (bare x d (whats.Closure method home (top (length old.scopes) saved es) None)) in
+    let ob = with_more_slots vs (bare_object x d (whats.Closure method home (top_of_scopes (length old.scopes) saved es) None)) in
     subst (Grows old) (sym m.heap) (grows_on old (with_scopes saved es old) _ (scopes_grow old saved es) (added_grows (with_scopes saved es old) ob))
 
 pub function_there : (old new : Heap) (o : ObjId) (vs : List Value) (x method home : ℕ) (d : Option ObjId) (saved : Option ScopeId) (es : List ScopeEntry) → IsFunctionMade old new o vs x method home d saved es → IsObject new o
-function_there old new o vs x method home d saved es m = there_last old new (with_more_slots vs (bare x d (whats.Closure method home (top (length old.scopes) saved es) None))) o m.number (ap (λ (h : Heap). h.objects) m.heap)
+function_there old new o vs x method home d saved es m = there_last old new (with_more_slots vs (bare_object x d (whats.Closure method home (top_of_scopes (length old.scopes) saved es) None))) o m.number (ap (λ (h : Heap). h.objects) m.heap)
 
 -- ---- classes
 
@@ -163,7 +163,7 @@ class_noted h classes =
 with_parts : List Value → List Value → ClassParts → Option ScopeId → List ScopeEntry → Heap → Heap
 with_parts ps cs parts saved es h =
     let o = length h.objects + 1 in
-    let statics = top (length h.scopes) saved es in
+    let statics = top_of_scopes (length h.scopes) saved es in
     let own = (record { object = obj_id o; with_flag = false }) ∷ [] in
     let what = whats.ClassObject parts.class parts.home statics (scope_id (length h.scopes + length es)) in
     with_made cs parts.class_layout parts.delegate what (with_scopes statics own (with_scopes saved es (with_made ps parts.prototype_layout parts.base_prototype whats.Plain h)))
@@ -172,22 +172,22 @@ parts_grow : (ps cs : List Value) (parts : ClassParts) (saved : Option ScopeId) 
 unfolding with_parts
 parts_grow ps cs parts saved es h =
     let o = length h.objects + 1 in
-    let statics = top (length h.scopes) saved es in
+    let statics = top_of_scopes (length h.scopes) saved es in
     let own = (record { object = obj_id o; with_flag = false }) ∷ [] in
     let one = with_made ps parts.prototype_layout parts.base_prototype whats.Plain h in
     let two = with_scopes saved es one in
     let three = with_scopes statics own two in
     let what = whats.ClassObject parts.class parts.home statics (scope_id (length h.scopes + length es)) in
-    let class = with_more_slots cs (bare parts.class_layout parts.delegate what) in
-    grows_on h one _ (added_grows h (with_more_slots ps (bare parts.prototype_layout parts.base_prototype whats.Plain)))
+    let class = with_more_slots cs (bare_object parts.class_layout parts.delegate what) in
+    grows_on h one _ (added_grows h (with_more_slots ps (bare_object parts.prototype_layout parts.base_prototype whats.Plain)))
     (grows_on one two _ (scopes_grow one saved es) (grows_on two three _ (scopes_grow two statics own) (added_grows three class)))
 
 parts_long : (ps cs : List Value) (parts : ClassParts) (saved : Option ScopeId) (es : List ScopeEntry) (h : Heap) → length (with_parts ps cs parts saved es h).objects ≡ length h.objects + 2
 unfolding with_parts
 parts_long ps cs parts saved es h =
-    let what = whats.ClassObject parts.class parts.home (top (length h.scopes) saved es) (scope_id (length h.scopes + length es)) in
-    let a = with_more_slots ps (bare parts.prototype_layout parts.base_prototype whats.Plain) in
-    let b = with_more_slots cs (bare parts.class_layout parts.delegate what) in
+    let what = whats.ClassObject parts.class parts.home (top_of_scopes (length h.scopes) saved es) (scope_id (length h.scopes + length es)) in
+    let a = with_more_slots ps (bare_object parts.prototype_layout parts.base_prototype whats.Plain) in
+    let b = with_more_slots cs (bare_object parts.class_layout parts.delegate what) in
     omega (arith, length-append h.objects (a ∷ []), length-append (h.objects ++ a ∷ []) (b ∷ []))
 
 with_rest : ℕ → List Value → List Value → ClassParts → Heap → Heap → Heap
@@ -218,16 +218,16 @@ class_there old new o ps cs parts saved es m =
 -- ---- properties
 
 pub property_put : (p : Setting) (w : World) (o : ObjId) (name : Span) (v : Value) (new : Heap)
-    → Fits w.heap new (cells_to_put (own_place p o name w)) (with_property p o name v w.heap) → set_property p o name v w ≡ Went (at_heap new w) tt
+    → FitsCells w.heap new (cells_to_put (own_place p o name w)) (heap_with_property p o name v w.heap) → set_property p o name v w ≡ Went (at_heap new w) tt
 property_put p w o name v new f =
-    cells_ok w (cells_to_put (own_place p o name w)) (changes (with_property p o name v) (λ h. tt)) f.0
-    ∙ changes_to (with_property p o name v) (λ h. tt) w new tt f.1 refl
+    cells_ok w (cells_to_put (own_place p o name w)) (changes (heap_with_property p o name v) (λ h. tt)) f.0
+    ∙ changes_to (heap_with_property p o name v) (λ h. tt) w new tt f.1 refl
 
 pub property_full : (p : Setting) (w : World) (o : ObjId) (name : Span) (v : Value) (new : Heap) (e : Full)
     → IsFull w.heap new (cells_used w.heap) (cells_to_put (own_place p o name w)) w.heap.limits.cells limits.Cells e → set_property p o name v w ≡ Stopped (at_heap new w) (Fills e.0)
-property_full p w o name v new e f = cells_full w (cells_to_put (own_place p o name w)) (changes (with_property p o name v) (λ h. tt)) new e f
+property_full p w o name v new e f = cells_full w (cells_to_put (own_place p o name w)) (changes (heap_with_property p o name v) (λ h. tt)) new e f
 
-pub property_grows : (old new : Heap) (need : ℕ) (f : Span → List ℕ) (t : List ℕ) (name : Span) (v : Value) (o : ℕ) → Fits old new need (with_object (with_put f t name v) o old) → Grows old new
+pub property_grows : (old new : Heap) (need : ℕ) (f : Span → List ℕ) (t : List ℕ) (name : Span) (v : Value) (o : ℕ) → FitsCells old new need (with_object (with_put f t name v) o old) → Grows old new
 property_grows old new need f t name v o p = subst (Grows old) (sym p.1) (changed_grows old (with_put f t name v) o (λ ob. record { layout = refl; delegate = refl; what = refl }))
 
 pub same_grows : (old new : Heap) → new ≡ old → Grows old new

@@ -6,7 +6,7 @@ use Rattle.abc_heap_store.specs.declared.records.Full.{Full}
 use Rattle.abc_heap_store.specs.declared.records.Limit.{Limit}
 use Rattle.abc_heap_store.specs.declared.records.Limit.TheVariants as limits
 use Rattle.abc_run_state.specs.Outer.{at_heap}
-use Rattle.abc_meaning.specs.World.{Fills, Run, Stopped, Went, World, and_then, changes, done, room, room_for_cells, room_for_objects, stop, ◌>>◌}
+use Rattle.abc_meaning.specs.World.{Fills, Run, Stopped, Went, World, and_then, changes, pure, room, room_for_cells, room_for_objects, stop, ◌>>◌}
 
 le_true : (a b : ℕ) → a ≤ b → nat_le a b ≡ true
 le_true a b h = grind (arith, nat_tests)
@@ -17,7 +17,7 @@ le_false a b h = grind (arith, nat_tests)
 -- ---- one count
 
 decided : Bool → Limit → Run (Unit {0})
-decided b which = if b then done tt else stop (Fills which)
+decided b which = if b then pure tt else stop (Fills which)
 
 room_there : (which : Limit) (used need limit : ℕ) (w : World) → used + need ≤ limit → room which used need limit w ≡ Went w tt
 unfolding decided

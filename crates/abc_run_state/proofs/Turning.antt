@@ -4,7 +4,7 @@ use Rattle.abc_heap_values.specs.declared.values.Value.{Value}
 use Rattle.abc_meaning.specs.At.{Act}
 use Rattle.abc_frames.specs.Frame.{Frame, Frames, newest}
 use Rattle.abc_run_state.specs.Stops.{IsOpen}
-use Rattle.abc_run_state.specs.Turns.{GoesOn, Halts, bared, on_top, turned}
+use Rattle.abc_run_state.specs.Turns.{GoesOn, Halts, bare_newest, on_top, turn_of}
 use Rattle.abc_meaning.specs.Setting.{Setting}
 use Rattle.abc_meaning.specs.World.{Outcome, Run, Stop, Stopped, Went, World, and_then, ◌>>=◌}
 
@@ -29,5 +29,5 @@ and_then_same (Stopped w why) f g e = refl
 
 -- ---- frames
 
-pub bared_same : (q r : Frames) → r ≡ q → bared r ≡ bared q
-bared_same q r e = ap bared e
+pub bared_same : (q r : Frames) → r ≡ q → bare_newest r ≡ bare_newest q
+bared_same q r e = ap bare_newest e

@@ -13,8 +13,8 @@ pub record Outer : Type 0 where
   pub wrote : List ℕ
 
 -- the file with the formulas: what is run, in the words of the meaning
-abbrev pub setting : LinkedFile → Outer → Setting
-setting l out = record { linked = l; formulas = out.formulas }
+abbrev pub setting_in : LinkedFile → Outer → Setting
+setting_in l out = record { linked = l; formulas = out.formulas }
 
 -- the world of a state, in the words of the meaning
 abbrev pub world : State → Outer → World

@@ -24,9 +24,9 @@ why (stops.Faults fault) = Faults fault
 why (stops.Fills limit) = Fills limit
 
 -- what a part of a step answers, in the world that it leaves
-abbrev pub answer : {X : Type 0} → Result X Stop → World → Outcome X
-answer (Ok x) w = Went w x
-answer (Err e) w = Stopped w (why e)
+abbrev pub part_outcome : {X : Type 0} → Result X Stop → World → Outcome X
+part_outcome (Ok x) w = Went w x
+part_outcome (Err e) w = Stopped w (why e)
 
 -- a part of a step that isn't stuck
 abbrev pub IsOpenWhy : Why → Type 0

@@ -20,8 +20,8 @@ use Rattle.abc_run_state.specs.declared.state.Left.{Left}
 use Rattle.abc_run_state.specs.declared.state.Left.TheVariants as lefts
 use Rattle.abc_run_state.specs.declared.state.State.{State}
 use Rattle.abc_run_state.specs.declared.state.Stop.{Stop}
-use Rattle.abc_run_state.specs.Outer.{Outer, setting, world}
-use Rattle.abc_run_state.specs.Settling.{settles}
+use Rattle.abc_run_state.specs.Outer.{Outer, setting_in, world}
+use Rattle.abc_run_state.specs.Settling.{settles_how}
 use Rattle.abc_run_state.specs.Stops.{why}
 
 pub data Turned : Type 0 where
@@ -32,79 +32,79 @@ pub data Turned : Type 0 where
 -- ---- frames
 
 -- what a throw goes on with
-abbrev pub bare : Frame → Frame
-bare f = record f { stack = []; scopes = []; wait = waits.Not }
+abbrev pub bare_frame : Frame → Frame
+bare_frame f = record f { stack = []; scopes = []; wait = waits.Not }
 
-abbrev pub bared : Frames → Frames
-bared q = record q { living = bare (newest q) ∷ under q.living }
+abbrev pub bare_newest : Frames → Frames
+bare_newest q = record q { living = bare_frame (newest q) ∷ under q.living }
 
 -- a frame in place of the newest, and one above it
 abbrev pub on_top : Frame → Frames → Frames
 on_top f q = record q { living = f ∷ under q.living }
 
 -- what a routine's frame may keep
-abbrev pub kept : Option Routine → Size
-kept None = no_size
-kept (Some r) = record { locals = r.local_count; stack = r.max_stack; scopes = r.scope_size }
+abbrev pub size_of_routine : Option Routine → Size
+size_of_routine None = no_size
+size_of_routine (Some r) = record { locals = r.local_count; stack = r.max_stack; scopes = r.scope_size }
 
 abbrev pub size_for : Setting → Frame → Size
-size_for p f = kept (routine_of p f.method)
+size_for p f = size_of_routine (routine_of p f.method)
 
-abbrev pub above : Size → Frame → Frames → Frames
-above size g q = record q { living = g ∷ q.living; sizes = size ∷ q.sizes }
+abbrev pub with_frame_above : Size → Frame → Frames → Frames
+with_frame_above size g q = record q { living = g ∷ q.living; sizes = size ∷ q.sizes }
 
 -- ---- what an act makes of them
 
 abbrev pub entered_if : Result Unit Full → Size → World → (new below : Frame) → Frames → Turned
-entered_if (Ok u) size w g f q = GoesOn w (above size g (on_top f q))
-entered_if (Err full) size w g f q = Halts w (bared q) (Fills full.0)
+entered_if (Ok u) size w g f q = GoesOn w (with_frame_above size g (on_top f q))
+entered_if (Err full) size w g f q = Halts w (bare_newest q) (Fills full.0)
 
 abbrev pub turned_to : Setting → World → Frames → Top → Turned
 turned_to p w q (Stays f) = GoesOn w (on_top f q)
 turned_to p w q (Above g f) = entered_if (room_for q (size_for p g)) (size_for p g) w g f q
 
-abbrev pub acted : Setting → World → Frames → Act → Turned
-acted p w q (Goes top) = turned_to p w q top
-acted p w q (Returns v) = Gives w (bared q) v
+abbrev pub turn_of_act : Setting → World → Frames → Act → Turned
+turn_of_act p w q (Goes top) = turned_to p w q top
+turn_of_act p w q (Returns v) = Gives w (bare_newest q) v
 
-abbrev pub turned : Setting → Frames → Outcome Act → Turned
-turned p q (Went w act) = acted p w q act
-turned p q (Stopped w why) = Halts w (bared q) why
+abbrev pub turn_of : Setting → Frames → Outcome Act → Turned
+turn_of p q (Went w act) = turn_of_act p w q act
+turn_of p q (Stopped w why) = Halts w (bare_newest q) why
 
 -- ---- what code answers
 
 -- the line is still to be made and written
-abbrev pub traced : Setting → (count : ℕ) → How → World → Frames → Turned
-traced p count how w q = turned p q (and_then (trace p (arguments count (newest q)) w) (settles how (newest q)))
+abbrev pub turn_of_trace : Setting → (count : ℕ) → How → World → Frames → Turned
+turn_of_trace p count how w q = turn_of p q (and_then (trace p (arguments count (newest q)) w) (settles_how how (newest q)))
 
 -- the formula is still to be asked
-abbrev pub asked : Setting → (formula count : ℕ) → How → World → Frames → Turned
-asked p n count how w q = turned p q (and_then (calls_what p (Formula n) Undefined (arguments count (newest q)) w) (settles how (newest q)))
+abbrev pub turn_of_formula : Setting → (formula count : ℕ) → How → World → Frames → Turned
+turn_of_formula p n count how w q = turn_of p q (and_then (calls_what p (Formula n) Undefined (arguments count (newest q)) w) (settles_how how (newest q)))
 
-abbrev pub left : Setting → Left → World → Frames → Turned
-left p lefts.Goes w q = GoesOn w q
-left p (lefts.Returns v) w q = Gives w (bared q) v
-left p (lefts.Traces count how) w q = traced p count how w q
-left p (lefts.Asks n count how) w q = asked p n count how w q
+abbrev pub turn_of_left : Setting → Left → World → Frames → Turned
+turn_of_left p lefts.Goes w q = GoesOn w q
+turn_of_left p (lefts.Returns v) w q = Gives w (bare_newest q) v
+turn_of_left p (lefts.Traces count how) w q = turn_of_trace p count how w q
+turn_of_left p (lefts.Asks n count how) w q = turn_of_formula p n count how w q
 
 -- what a step makes of the frames, by what code answers: it goes on, leaves something to be done, or stops
-abbrev pub answered : Setting → Result Left Stop → World → Frames → Turned
-answered p (Ok l) w q = left p l w q
-answered p (Err e) w q = Halts w (bared q) (why e)
+abbrev pub turn_of_answer : Setting → Result Left Stop → World → Frames → Turned
+turn_of_answer p (Ok l) w q = turn_of_left p l w q
+turn_of_answer p (Err e) w q = Halts w (bare_newest q) (why e)
 
 -- of code that goes on, or stops
 abbrev pub went : Result Unit Stop → World → Frames → Turned
 went (Ok u) w q = GoesOn w q
-went (Err e) w q = Halts w (bared q) (why e)
+went (Err e) w q = Halts w (bare_newest q) (why e)
 
 -- ---- the code of an instruction does what its act says
 
 -- code that goes on or stops does the act: from the old state, its result and the new state are what the act makes of that
 abbrev pub Runs : LinkedFile → Outer → Run Act → State → Result Unit Stop → State → Type 0
-Runs l out act old result new = turned (setting l out) old.frames (act (world old out)) ≡ went result (world new out) new.frames
+Runs l out act old result new = turn_of (setting_in l out) old.frames (act (world old out)) ≡ went result (world new out) new.frames
 
 abbrev pub Leaves : LinkedFile → Outer → Run Act → State → Result Left Stop → State → Type 0
-Leaves l out act old result new = turned (setting l out) old.frames (act (world old out)) ≡ answered (setting l out) result (world new out) new.frames
+Leaves l out act old result new = turn_of (setting_in l out) old.frames (act (world old out)) ≡ turn_of_answer (setting_in l out) result (world new out) new.frames
 
 -- an act is done, and it goes on; or nothing is
 abbrev pub IsDoneIf : Bool → LinkedFile → Outer → Run Act → State → State → Type 0

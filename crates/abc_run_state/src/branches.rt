@@ -1,15 +1,15 @@
 ghost use Rattle.std.specs.Prelude.{◌≡◌, ◌∷◌, not};
-ghost use Rattle.abc_meaning.specs.Simple.{switched};
+ghost use Rattle.abc_meaning.specs.Simple.{switch_target};
 ghost use Rattle.abc_heap_values.specs.declared.values.Value.TheVariants.{Num};
 ghost use Rattle.abc_heap_values.specs.Numbers.{truth_of};
-ghost use Rattle.abc_frames.specs.Ready.{IsReady};
+ghost use Rattle.abc_frames.specs.Ready.{HasFrameRoom};
 ghost use Rattle.abc_frames.specs.Frame.{newest};
 ghost use Rattle.abc_run_state.specs.Operands.{operand_at};
 ghost use Rattle.abc_run_state.specs.Outer.{Outer, world};
 ghost use Rattle.abc_run_state.specs.Standing.{IsSet};
 ghost use Rattle.abc_run_state.specs.Stops.{IsOpen};
-ghost use Rattle.abc_meaning.specs.World.{Went, World, done};
-ghost use Rattle.abc_run_state.specs.Plain.{branches_on, compares_both, opposite, switches_on};
+ghost use Rattle.abc_meaning.specs.World.{Went, World, pure};
+ghost use Rattle.abc_run_state.specs.Plain.{branches_on, compares_both, opposite_of, switches_on};
 ghost use Rattle.abc_run_state.specs.Doing.{Does};
 
 use crate::operands::operand;
@@ -24,7 +24,7 @@ use abc_link::Linked;
 pub fn branch_so(linked: &Linked, s: &mut State, op: u8, target: u32) -> Result<(), Stop>
     ghost out: { Outer }
     requires set { IsSet linked.now s.old }
-    requires ready { IsReady 2 0 s.old.frames }
+    requires ready { HasFrameRoom 2 0 s.old.frames }
     ensures { Does linked.now out (λ p f. branches_on 2 target f (compares_both p op f)) s.old result s.new }
 {
     let x = operand(&s.frames, 1);
@@ -40,8 +40,9 @@ pub fn branch_so(linked: &Linked, s: &mut State, op: u8, target: u32) -> Result<
 pub fn branch_not(linked: &Linked, s: &mut State, op: u8, target: u32) -> Result<(), Stop>
     ghost out: { Outer }
     requires set { IsSet linked.now s.old }
-    requires ready { IsReady 2 0 s.old.frames }
-    ensures { Does linked.now out (λ p f. branches_on 2 target f (opposite (compares_both p op f))) s.old result s.new }
+    requires ready { HasFrameRoom 2 0 s.old.frames }
+    ensures { Does linked.now out (λ p f. branches_on 2 target f (opposite_of (compares_both p op f))) s.old
+        result s.new }
 {
     let x = operand(&s.frames, 1);
     let y = operand(&s.frames, 0);
@@ -55,8 +56,9 @@ pub fn branch_not(linked: &Linked, s: &mut State, op: u8, target: u32) -> Result
 #[inline(always)]
 pub fn branch_if(linked: &Linked, s: &mut State, target: u32) -> Result<(), Stop>
     ghost out: { Outer }
-    requires { IsReady 1 0 s.old.frames }
-    ensures { Does linked.now out (λ p f. branches_on 1 target f (done (truth_of (operand_at 0 f)))) s.old result s.new }
+    requires { HasFrameRoom 1 0 s.old.frames }
+    ensures { Does linked.now out (λ p f. branches_on 1 target f (pure (truth_of (operand_at 0 f)))) s.old
+        result s.new }
 {
     let v = operand(&s.frames, 0);
     let is = is_true(v);
@@ -69,8 +71,9 @@ pub fn branch_if(linked: &Linked, s: &mut State, target: u32) -> Result<(), Stop
 #[inline(always)]
 pub fn branch_unless(linked: &Linked, s: &mut State, target: u32) -> Result<(), Stop>
     ghost out: { Outer }
-    requires { IsReady 1 0 s.old.frames }
-    ensures { Does linked.now out (λ p f. branches_on 1 target f (done (not (truth_of (operand_at 0 f))))) s.old result s.new }
+    requires { HasFrameRoom 1 0 s.old.frames }
+    ensures { Does linked.now out (λ p f. branches_on 1 target f (pure (not (truth_of (operand_at 0 f)))))
+        s.old result s.new }
 {
     let v = operand(&s.frames, 0);
     let is = is_true(v);
@@ -81,7 +84,7 @@ pub fn branch_unless(linked: &Linked, s: &mut State, target: u32) -> Result<(), 
 
 /// The case of a number, or the default.
 fn case_of(n: i64, default: u32, cases: &[u32]) -> u32
-    ensures { (w : World) → switched (default ∷ cases.now) (Num n) w ≡ Went w result }
+    ensures { (w : World) → switch_target (default ∷ cases.now) (Num n) w ≡ Went w result }
 {
     if n >= 0 && (n as u64) < cases.len() as u64 {
         cases[n as usize]
@@ -92,7 +95,8 @@ fn case_of(n: i64, default: u32, cases: &[u32]) -> u32
 
 /// Where the number on top of the operands leads.
 fn target_of(v: Value, default: u32, cases: &[u32]) -> u32
-    ensures { (w : World) → IsOpen (switched (default ∷ cases.now) v w) → switched (default ∷ cases.now) v w ≡ Went w result }
+    ensures { (w : World) → IsOpen (switch_target (default ∷ cases.now) v w)
+        → switch_target (default ∷ cases.now) v w ≡ Went w result }
 {
     match v {
         Value::Num(n) => case_of(n, default, cases),
@@ -103,7 +107,7 @@ fn target_of(v: Value, default: u32, cases: &[u32]) -> u32
 /// `lookupswitch`: the case of the number on top, or the default.
 pub fn switch(linked: &Linked, s: &mut State, default: u32, cases: &[u32]) -> Result<(), Stop>
     ghost out: { Outer }
-    requires ready { IsReady 1 0 s.old.frames }
+    requires ready { HasFrameRoom 1 0 s.old.frames }
     requires free { IsOpen (switches_on default cases.now (newest s.old.frames) (world s.old out)) }
     ensures { Does linked.now out (λ p. switches_on default cases.now) s.old result s.new }
 {

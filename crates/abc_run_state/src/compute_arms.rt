@@ -1,5 +1,5 @@
 ghost use Rattle.std.specs.Prelude.{◌<◌, length};
-ghost use Rattle.abc_frames.specs.Ready.{IsReady};
+ghost use Rattle.abc_frames.specs.Ready.{HasFrameRoom};
 ghost use Rattle.abc_frames.specs.Frame.{newest};
 ghost use Rattle.abc_run_state.specs.Outer.{Outer};
 ghost use Rattle.abc_run_state.specs.Standing.{IsSet};
@@ -18,7 +18,7 @@ use abc_link::Linked;
 pub fn convert_top(linked: &Linked, s: &mut State, to: Conversion) -> Result<(), Stop>
     ghost out: { Outer }
     requires set { IsSet linked.now s.old }
-    requires ready { IsReady 1 1 s.old.frames }
+    requires ready { HasFrameRoom 1 1 s.old.frames }
     ensures { Does linked.now out (λ p. converts_top p to) s.old result s.new }
 {
     let v = operand(&s.frames, 0);
@@ -32,7 +32,7 @@ pub fn convert_top(linked: &Linked, s: &mut State, to: Conversion) -> Result<(),
 pub fn compute_top(linked: &Linked, s: &mut State, op: u8) -> Result<(), Stop>
     ghost out: { Outer }
     requires set { IsSet linked.now s.old }
-    requires ready { IsReady 1 1 s.old.frames }
+    requires ready { HasFrameRoom 1 1 s.old.frames }
     ensures { Does linked.now out (λ p. computes_top op) s.old result s.new }
 {
     let v = operand(&s.frames, 0);
@@ -46,7 +46,7 @@ pub fn compute_top(linked: &Linked, s: &mut State, op: u8) -> Result<(), Stop>
 pub fn compute_both(linked: &Linked, s: &mut State, op: u8) -> Result<(), Stop>
     ghost out: { Outer }
     requires set { IsSet linked.now s.old }
-    requires ready { IsReady 2 1 s.old.frames }
+    requires ready { HasFrameRoom 2 1 s.old.frames }
     ensures { Does linked.now out (λ p. computes_both p op) s.old result s.new }
 {
     let x = operand(&s.frames, 1);
@@ -61,7 +61,7 @@ pub fn compute_both(linked: &Linked, s: &mut State, op: u8) -> Result<(), Stop>
 pub fn compare_top(linked: &Linked, s: &mut State, op: u8) -> Result<(), Stop>
     ghost out: { Outer }
     requires set { IsSet linked.now s.old }
-    requires ready { IsReady 2 1 s.old.frames }
+    requires ready { HasFrameRoom 2 1 s.old.frames }
     ensures { Does linked.now out (λ p. pushes_test p op) s.old result s.new }
 {
     let x = operand(&s.frames, 1);
@@ -76,7 +76,7 @@ pub fn compare_top(linked: &Linked, s: &mut State, op: u8) -> Result<(), Stop>
 pub fn count_local(linked: &Linked, s: &mut State, op: u8, n: u32) -> Result<(), Stop>
     ghost out: { Outer }
     requires set { IsSet linked.now s.old }
-    requires ready { IsReady 0 0 s.old.frames }
+    requires ready { HasFrameRoom 0 0 s.old.frames }
     requires local { n < length (newest s.old.frames).locals }
     ensures { Does linked.now out (λ p. counts_local op n) s.old result s.new }
 {

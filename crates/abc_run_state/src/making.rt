@@ -2,13 +2,13 @@ ghost use Rattle.std.specs.Prelude.{◌≡◌, ◌≢◌, ◌<◌, ◌≤◌, No
 ghost use Rattle.abc_base.specs.declared.names.HostClass.TheVariants.{Array};
 ghost use Rattle.abc_heap_values.specs.declared.values.Value.TheVariants.{Undefined};
 ghost use Rattle.abc_heap_store.specs.Texts.{IsText};
-ghost use Rattle.abc_objects.specs.Stands.{Each, IsMadeAlone, IsObjectOrNone, NamesParts, StandsOver, array_layout};
+ghost use Rattle.abc_objects.specs.Stands.{EachAt, IsMadeAlone, IsObjectOrNone, NamesParts, StandsOver, array_layout};
 ghost use Rattle.abc_objects.specs.Values.{Exists, IsObject};
 ghost use Rattle.abc_link_names.specs.Linked.{IsLayout};
 ghost use Rattle.abc_frames.specs.Frame.{arguments, newest};
-ghost use Rattle.abc_run_state.specs.Outer.{Outer, setting, world};
+ghost use Rattle.abc_run_state.specs.Outer.{Outer, setting_in, world};
 ghost use Rattle.abc_run_state.specs.Standing.{IsSet, Stays};
-ghost use Rattle.abc_run_state.specs.Stops.{answer};
+ghost use Rattle.abc_run_state.specs.Stops.{part_outcome};
 ghost use Rattle.abc_meaning.specs.Objects.{new_array, new_class, new_function, new_object, new_of_host, set_property};
 
 use crate::prototypes::prototype_for;
@@ -34,7 +34,9 @@ pub fn make_object(
     requires delegate { IsObjectOrNone s.old.arena delegate }
     requires what { IsMadeAlone what }
     requires names { NamesParts linked.now s.old.arena what }
-    ensures part { (out : Outer) → new_object (setting linked.now out) layout.0 delegate what (world s.old out) ≡ answer result (world s.new out) }
+    ensures part { (out : Outer)
+        → new_object (setting_in linked.now out) layout.0 delegate what (world s.old out)
+        ≡ part_outcome result (world s.new out) }
     ensures stays { Stays linked.now s.old s.new }
     ensures there { IfOk result (IsObject s.new.arena) }
 {
@@ -55,7 +57,9 @@ pub fn make_of_host(
     requires no_array { class ≢ Array }
     requires what { IsMadeAlone what }
     requires names { NamesParts linked.now s.old.arena what }
-    ensures part { (out : Outer) → new_of_host (setting linked.now out) class what (world s.old out) ≡ answer result (world s.new out) }
+    ensures part { (out : Outer)
+        → new_of_host (setting_in linked.now out) class what (world s.old out)
+        ≡ part_outcome result (world s.new out) }
     ensures stays { Stays linked.now s.old s.new }
     ensures there { IfOk result (IsObject s.new.arena) }
 {
@@ -73,7 +77,9 @@ pub fn make_of_host(
 pub fn make_array(linked: &Linked, s: &mut State, count: u32) -> Result<ObjId, Stop>
     requires set { IsSet linked.now s.old }
     requires operands { count ≤ length (newest s.old.frames).stack }
-    ensures part { (out : Outer) → new_array (setting linked.now out) (arguments count (newest s.old.frames)) (world s.old out) ≡ answer result (world s.new out) }
+    ensures part { (out : Outer)
+        → new_array (setting_in linked.now out) (arguments count (newest s.old.frames)) (world s.old out)
+        ≡ part_outcome result (world s.new out) }
     ensures stays { Stays linked.now s.old s.new }
     ensures there { IfOk result (IsObject s.new.arena) }
 {
@@ -86,7 +92,9 @@ pub fn make_array(linked: &Linked, s: &mut State, count: u32) -> Result<ObjId, S
 /// Makes an array of so many elements that are undefined.
 pub fn make_undefined(linked: &Linked, s: &mut State, count: u32) -> Result<ObjId, Stop>
     requires { StandsOver linked.now s.old.arena }
-    ensures part { (out : Outer) → new_array (setting linked.now out) (replicate count Undefined) (world s.old out) ≡ answer result (world s.new out) }
+    ensures part { (out : Outer)
+        → new_array (setting_in linked.now out) (replicate count Undefined) (world s.old out)
+        ≡ part_outcome result (world s.new out) }
     ensures stays { Stays linked.now s.old s.new }
     ensures there { IfOk result (IsObject s.new.arena) }
 {
@@ -101,7 +109,10 @@ pub fn make_function(linked: &Linked, s: &mut State, method: u32) -> Result<ObjI
     requires set { IsSet linked.now s.old }
     requires live { 0 < length s.old.frames.living }
     requires method { method < length linked.now.file.methods }
-    ensures part { (out : Outer) → new_function (setting linked.now out) method (newest s.old.frames).home (newest s.old.frames).saved (newest s.old.frames).scopes (world s.old out) ≡ answer result (world s.new out) }
+    ensures part { (out : Outer)
+        → new_function (setting_in linked.now out) method (newest s.old.frames).home
+        (newest s.old.frames).saved (newest s.old.frames).scopes (world s.old out)
+        ≡ part_outcome result (world s.new out) }
     ensures stays { Stays linked.now s.old s.new }
     ensures there { IfOk result (IsObject s.new.arena) }
 {
@@ -129,7 +140,10 @@ pub fn make_class(
     requires class { class < length linked.now.file.instances }
     requires first { get_or s.old.arena.classes class None ≡ None }
     requires base { IsObjectOrNone s.old.arena base_prototype }
-    ensures part { (out : Outer) → new_class (setting linked.now out) class (newest s.old.frames).home base_prototype (newest s.old.frames).saved (newest s.old.frames).scopes (world s.old out) ≡ answer result (world s.new out) }
+    ensures part { (out : Outer)
+        → new_class (setting_in linked.now out) class (newest s.old.frames).home base_prototype
+        (newest s.old.frames).saved (newest s.old.frames).scopes (world s.old out)
+        ≡ part_outcome result (world s.new out) }
     ensures stays { Stays linked.now s.old s.new }
     ensures there { IfOk result (IsObject s.new.arena) }
 {
@@ -163,7 +177,9 @@ pub fn put_property(
     requires inside { IsObject s.old.arena o }
     requires name { IsText linked.now.file.strings s.old.arena name }
     requires value { Exists linked.now s.old.arena v }
-    ensures part { (out : Outer) → set_property (setting linked.now out) o name v (world s.old out) ≡ answer result (world s.new out) }
+    ensures part { (out : Outer)
+        → set_property (setting_in linked.now out) o name v (world s.old out)
+        ≡ part_outcome result (world s.new out) }
     ensures stays { Stays linked.now s.old s.new }
 {
     match s.arena.set_property(linked, o, name, v) {

@@ -1,6 +1,6 @@
 ghost use Rattle.std.specs.Prelude.{◌≡◌, ◌<◌, length};
 ghost use Rattle.abc_heap_store.specs.Heap.{Heap};
-ghost use Rattle.abc_objects.specs.Stands.{Each};
+ghost use Rattle.abc_objects.specs.Stands.{EachAt};
 ghost use Rattle.abc_objects.specs.Values.{Exists};
 ghost use Rattle.abc_link_names.specs.Linked.{LinkedFile};
 ghost use Rattle.abc_frames.specs.Frame.{newest};
@@ -15,7 +15,8 @@ use abc_heap_values::Value;
 pub fn operand(frames: &Frames, n: u32) -> Value
     requires { n < length (newest frames.now).stack }
     ensures is { result ≡ operand_at n (newest frames.now) }
-    ensures there { (l : LinkedFile) (h : Heap) → Each (Exists l h) (newest frames.now).stack → Exists l h result }
+    ensures there { (l : LinkedFile) (h : Heap) → EachAt (Exists l h) (newest frames.now).stack
+        → Exists l h result }
 {
     frames.operand(n)
 }
@@ -26,7 +27,8 @@ pub fn operand(frames: &Frames, n: u32) -> Value
 pub fn local(frames: &Frames, n: u32) -> Value
     requires { n < length (newest frames.now).locals }
     ensures is { result ≡ local_at n (newest frames.now) }
-    ensures there { (l : LinkedFile) (h : Heap) → Each (Exists l h) (newest frames.now).locals → Exists l h result }
+    ensures there { (l : LinkedFile) (h : Heap) → EachAt (Exists l h) (newest frames.now).locals
+        → Exists l h result }
 {
     frames.local(n)
 }

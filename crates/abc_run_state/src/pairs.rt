@@ -1,14 +1,14 @@
 ghost use Rattle.std.specs.Prelude.{◌≡◌, ◌<◌, ◌≤◌, ◌*◌, ◌^◌, MatchResult, length};
 ghost use Rattle.abc_meaning.specs.Newing.{set_all};
-ghost use Rattle.abc_frames.specs.Ready.{IsReady};
+ghost use Rattle.abc_frames.specs.Ready.{HasFrameRoom};
 ghost use Rattle.abc_objects.specs.Values.{IsObject};
 ghost use Rattle.abc_frames.specs.Frame.{newest};
-ghost use Rattle.abc_run_state.specs.Outer.{Outer, setting, world};
+ghost use Rattle.abc_run_state.specs.Outer.{Outer, setting_in, world};
 ghost use Rattle.abc_run_state.specs.Standing.{IsSet, Stays};
-ghost use Rattle.abc_run_state.specs.Stops.{answer, why};
+ghost use Rattle.abc_run_state.specs.Stops.{part_outcome, why};
 ghost use Rattle.abc_meaning.specs.World.{Stopped, Went};
 ghost use Rattle.abc_run_state.specs.Makers.{pushes_object};
-ghost use Rattle.abc_run_state.specs.Pairs.{entries_at, spelled, text_in, with_operands};
+ghost use Rattle.abc_run_state.specs.Pairs.{pairs_at, pair_texts, pair_text, with_operands};
 ghost use Rattle.abc_run_state.specs.Doing.{Does};
 
 use crate::making::{make_of_host, put_property};
@@ -23,7 +23,7 @@ use abc_link::Linked;
 
 /// Where a text lies; of another value the empty text.
 fn text_in_value(v: Value) -> Span
-    ensures { result ≡ text_in v }
+    ensures { result ≡ pair_text v }
 {
     match v {
         Value::Text(text) => text,
@@ -53,7 +53,10 @@ fn spell_names(linked: &Linked, s: &mut State, pairs: u32) -> Result<(), Stop>
     requires live { 0 < length s.old.frames.living }
     requires count { pairs < 2 ^ 30 }
     requires operands { 2 * pairs ≤ length (newest s.old.frames).stack }
-    ensures part { MatchResult result (λ _. spelled (setting linked.now out) pairs (newest s.old.frames).stack (world s.old out) ≡ Went (world s.new out) (newest s.new.frames).stack) (λ e. spelled (setting linked.now out) pairs (newest s.old.frames).stack (world s.old out) ≡ Stopped (world s.new out) (why e)) }
+    ensures part { MatchResult result (λ _. pair_texts (setting_in linked.now out) pairs
+        (newest s.old.frames).stack (world s.old out)
+        ≡ Went (world s.new out) (newest s.new.frames).stack) (λ e. pair_texts (setting_in linked.now out)
+        pairs (newest s.old.frames).stack (world s.old out) ≡ Stopped (world s.new out) (why e)) }
     ensures frames { s.new.frames ≡ with_operands (newest s.new.frames).stack s.old.frames }
     ensures long { length (newest s.new.frames).stack ≡ length (newest s.old.frames).stack }
     ensures set { IsSet linked.now s.new }
@@ -75,7 +78,9 @@ fn put_all(linked: &Linked, s: &mut State, o: ObjId, pairs: u32) -> Result<(), S
     requires object { IsObject s.old.arena o }
     requires count { pairs < 2 ^ 30 }
     requires operands { 2 * pairs ≤ length (newest s.old.frames).stack }
-    ensures part { (out : Outer) → set_all (setting linked.now out) o (entries_at pairs (newest s.old.frames).stack) (world s.old out) ≡ answer result (world s.new out) }
+    ensures part { (out : Outer)
+        → set_all (setting_in linked.now out) o (pairs_at pairs (newest s.old.frames).stack) (world s.old out)
+        ≡ part_outcome result (world s.new out) }
     ensures stays { Stays linked.now s.old s.new }
 {
     let mut left = pairs;
@@ -93,7 +98,7 @@ fn put_all(linked: &Linked, s: &mut State, o: ObjId, pairs: u32) -> Result<(), S
 pub fn new_object(linked: &Linked, s: &mut State, pairs: u32) -> Result<(), Stop>
     ghost out: { Outer }
     requires set { IsSet linked.now s.old }
-    requires ready { IsReady (2 * pairs) 1 s.old.frames }
+    requires ready { HasFrameRoom (2 * pairs) 1 s.old.frames }
     requires count { pairs < 2 ^ 30 }
     ensures { Does linked.now out (λ p. pushes_object p pairs) s.old result s.new }
 {

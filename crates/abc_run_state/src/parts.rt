@@ -3,11 +3,11 @@ ghost use Rattle.abc_heap_store.specs.Texts.{IsText};
 ghost use Rattle.abc_objects.specs.Stands.{StandsOver};
 ghost use Rattle.abc_objects.specs.Values.{Exists};
 ghost use Rattle.abc_objects.specs.Growing.{Grows};
-ghost use Rattle.abc_ops.specs.Left.{Leaves};
-ghost use Rattle.abc_meaning.specs.Ops.{coerced, coerces, compares, computes_one, computes_two, converts, spells};
-ghost use Rattle.abc_run_state.specs.Outer.{Outer, setting, world};
+ghost use Rattle.abc_ops.specs.Left.{LeavesHeap};
+ghost use Rattle.abc_meaning.specs.Ops.{coerce_to, coerces, compares, computes_one, computes_two, converts, spells};
+ghost use Rattle.abc_run_state.specs.Outer.{Outer, setting_in, world};
 ghost use Rattle.abc_run_state.specs.Standing.{Stays};
-ghost use Rattle.abc_run_state.specs.Stops.{answer, stop_of_end};
+ghost use Rattle.abc_run_state.specs.Stops.{part_outcome, stop_of_end};
 
 use crate::state::{State, Stop};
 use abc_heap_values::{Conversion, Span, Value};
@@ -33,7 +33,8 @@ pub fn convert(linked: &Linked, s: &mut State, to: Conversion, v: Value) -> Resu
     ghost out: { Outer }
     requires over { StandsOver linked.now s.old.arena }
     requires value { Exists linked.now s.old.arena v }
-    ensures part { converts (setting linked.now out) to v (world s.old out) ≡ answer result (world s.new out) }
+    ensures part { converts (setting_in linked.now out) to v (world s.old out)
+        ≡ part_outcome result (world s.new out) }
     ensures stays { Stays linked.now s.old s.new }
     ensures there { IfOk result (Exists linked.now s.new.arena) }
 {
@@ -48,7 +49,7 @@ pub fn convert(linked: &Linked, s: &mut State, to: Conversion, v: Value) -> Resu
 fn coerce_in(linked: &Linked, a: &mut Arena, ty: Ty, v: Value) -> Result<Value, OpEnd>
     requires over { StandsOver linked.now a.old }
     requires value { Exists linked.now a.old v }
-    ensures left { Leaves (coerced linked.now a.old ty v) result a.new }
+    ensures left { LeavesHeap (coerce_to linked.now a.old ty v) result a.new }
     ensures over { StandsOver linked.now a.new }
     ensures grows { Grows a.old a.new }
     ensures there { IfOk result (Exists linked.now a.new) }
@@ -62,7 +63,8 @@ pub fn coerce(linked: &Linked, s: &mut State, ty: Ty, v: Value) -> Result<Value,
     ghost out: { Outer }
     requires over { StandsOver linked.now s.old.arena }
     requires value { Exists linked.now s.old.arena v }
-    ensures part { coerces (setting linked.now out) ty v (world s.old out) ≡ answer result (world s.new out) }
+    ensures part { coerces (setting_in linked.now out) ty v (world s.old out)
+        ≡ part_outcome result (world s.new out) }
     ensures stays { Stays linked.now s.old s.new }
     ensures there { IfOk result (Exists linked.now s.new.arena) }
 {
@@ -78,7 +80,7 @@ pub fn compute_one(linked: &Linked, s: &mut State, op: u8, v: Value) -> Result<V
     ghost out: { Outer }
     requires over { StandsOver linked.now s.old.arena }
     requires value { Exists linked.now s.old.arena v }
-    ensures part { computes_one op v (world s.old out) ≡ answer result (world s.new out) }
+    ensures part { computes_one op v (world s.old out) ≡ part_outcome result (world s.new out) }
     ensures stays { Stays linked.now s.old s.new }
     ensures there { IfOk result (Exists linked.now s.new.arena) }
 {
@@ -101,7 +103,8 @@ pub fn compute_two(
     requires over { StandsOver linked.now s.old.arena }
     requires left { Exists linked.now s.old.arena x }
     requires right { Exists linked.now s.old.arena y }
-    ensures part { computes_two (setting linked.now out) op x y (world s.old out) ≡ answer result (world s.new out) }
+    ensures part { computes_two (setting_in linked.now out) op x y (world s.old out)
+        ≡ part_outcome result (world s.new out) }
     ensures stays { Stays linked.now s.old s.new }
     ensures there { IfOk result (Exists linked.now s.new.arena) }
 {
@@ -118,7 +121,8 @@ pub fn compare(linked: &Linked, s: &State, op: u8, x: Value, y: Value) -> Result
     requires over { StandsOver linked.now s.now.arena }
     requires left { Exists linked.now s.now.arena x }
     requires right { Exists linked.now s.now.arena y }
-    ensures { compares (setting linked.now out) op x y (world s.now out) ≡ answer result (world s.now out) }
+    ensures { compares (setting_in linked.now out) op x y (world s.now out)
+        ≡ part_outcome result (world s.now out) }
 {
     match abc_ops::compare(linked, &s.arena, op, x, y) {
         Ok(is) => Ok(is),
@@ -131,7 +135,8 @@ pub fn spell(linked: &Linked, s: &mut State, v: Value) -> Result<Span, Stop>
     ghost out: { Outer }
     requires over { StandsOver linked.now s.old.arena }
     requires value { Exists linked.now s.old.arena v }
-    ensures part { spells (setting linked.now out) v (world s.old out) ≡ answer result (world s.new out) }
+    ensures part { spells (setting_in linked.now out) v (world s.old out)
+        ≡ part_outcome result (world s.new out) }
     ensures stays { Stays linked.now s.old s.new }
     ensures there { IfOk result (IsText linked.now.file.strings s.new.arena) }
 {

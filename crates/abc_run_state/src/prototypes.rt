@@ -1,5 +1,5 @@
 ghost use Rattle.std.specs.Prelude.{◌≡◌, ◌<◌, length};
-ghost use Rattle.abc_heap_store.specs.Heap.{slots_of};
+ghost use Rattle.abc_heap_store.specs.Heap.{slots_of_object};
 ghost use Rattle.abc_objects.specs.Stands.{IsObjectOrNone, StandsOver, prototype_of as prototype_in};
 ghost use Rattle.abc_objects.specs.Values.{IsObject};
 ghost use Rattle.abc_objects.specs.Objects.{host_prototype};
@@ -12,7 +12,7 @@ use abc_link::Linked;
 /// The object that the first slot of an object holds, where it holds one.
 fn first_held(linked: &Linked, s: &State, o: ObjId) -> Option<ObjId>
     requires over { StandsOver linked.now s.now.arena }
-    requires slot { 0 < length (slots_of s.now.arena.objects o.0) }
+    requires slot { 0 < length (slots_of_object s.now.arena.objects o.0) }
     ensures is { result ≡ prototype_in s.now.arena o.0 }
     ensures there { IsObjectOrNone s.now.arena result }
 {
@@ -27,7 +27,7 @@ fn first_held(linked: &Linked, s: &State, o: ObjId) -> Option<ObjId>
 fn slot_count(linked: &Linked, s: &State, o: ObjId) -> usize
     requires over { StandsOver linked.now s.now.arena }
     requires inside { IsObject s.now.arena o }
-    ensures { result ≡ length (slots_of s.now.arena.objects o.0) }
+    ensures { result ≡ length (slots_of_object s.now.arena.objects o.0) }
 {
     linked.slots(s.arena.layout(o)).len()
 }

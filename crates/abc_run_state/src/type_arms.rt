@@ -1,12 +1,12 @@
 ghost use Rattle.std.specs.Prelude.{◌≡◌, IsSome, Some};
 ghost use Rattle.abc_meaning.specs.Late.{or_null};
 ghost use Rattle.abc_link_names.specs.Types.{type_of};
-ghost use Rattle.abc_frames.specs.Ready.{IsReady};
+ghost use Rattle.abc_frames.specs.Ready.{HasFrameRoom};
 ghost use Rattle.abc_objects.specs.Stands.{StandsOver};
 ghost use Rattle.abc_objects.specs.Values.{Exists};
 ghost use Rattle.abc_run_state.specs.Outer.{Outer};
 ghost use Rattle.abc_run_state.specs.Standing.{IsSet};
-ghost use Rattle.abc_meaning.specs.Types.{is_of as is_of_type};
+ghost use Rattle.abc_meaning.specs.Types.{is_of_type};
 ghost use Rattle.abc_run_state.specs.Plain.{coerces_named, keeps_named, tests_named};
 ghost use Rattle.abc_run_state.specs.Doing.{Does};
 
@@ -43,7 +43,7 @@ pub fn is_it(linked: &Linked, s: &State, ty: Ty, v: Value) -> bool
 pub fn coerce_to(linked: &Linked, s: &mut State, name: u32) -> Result<(), Stop>
     ghost out: { Outer }
     requires set { IsSet linked.now s.old }
-    requires ready { IsReady 1 1 s.old.frames }
+    requires ready { HasFrameRoom 1 1 s.old.frames }
     requires ty { IsSome (type_of linked.now name) }
     ensures { Does linked.now out (λ p. coerces_named p name) s.old result s.new }
 {
@@ -58,7 +58,7 @@ pub fn coerce_to(linked: &Linked, s: &mut State, name: u32) -> Result<(), Stop>
 pub fn as_type(linked: &Linked, s: &mut State, name: u32) -> Result<(), Stop>
     ghost out: { Outer }
     requires set { IsSet linked.now s.old }
-    requires ready { IsReady 1 1 s.old.frames }
+    requires ready { HasFrameRoom 1 1 s.old.frames }
     requires ty { IsSome (type_of linked.now name) }
     ensures { Does linked.now out (λ p. keeps_named p name) s.old result s.new }
 {
@@ -80,7 +80,7 @@ pub fn value_or_null(v: Value, is: bool) -> Value
 pub fn is_type(linked: &Linked, s: &mut State, name: u32) -> Result<(), Stop>
     ghost out: { Outer }
     requires set { IsSet linked.now s.old }
-    requires ready { IsReady 1 1 s.old.frames }
+    requires ready { HasFrameRoom 1 1 s.old.frames }
     requires ty { IsSome (type_of linked.now name) }
     ensures { Does linked.now out (λ p. tests_named p name) s.old result s.new }
 {

@@ -4,7 +4,7 @@ use Rattle.std.specs.Prelude.{None, Some}
 use Rattle.std.specs.declared.option.Option.{Option}
 use Rattle.abc_meaning.specs.At.{Act, Doing}
 use Rattle.abc_meaning.specs.Table.{act_of}
-use Rattle.abc_meaning.specs.Step.{does, does_row, tested}
+use Rattle.abc_meaning.specs.Step.{does, does_row, or_stuck}
 use Rattle.abc_meaning.specs.Tests.{at_frame, can_run}
 use Rattle.abc_verify_typing.specs.Instructions.{opcode}
 use Rattle.abc_verify_typing.specs.Rows.{Shape, row_at}
@@ -29,7 +29,7 @@ pub record IsOpened (p : Setting) (f : Frame) (i : Instr) (w : World) (row : Sha
 pub opened : (p : Setting) (f : Frame) (i : Instr) (w : World) (row : Shape) (act : Doing) → row_at (opcode i) ≡ Some row → act_of (opcode i) ≡ Some act → IsOpen (act_here p f i w) → IsOpened p f i w row act
 opened p f i w row act e a free = go (routine_of p f.method) refl
   where
-    test : (r : Routine) (b : Bool) → can_run p (here_of p r f i row) f w ≡ b → IsOpen (tested b (act (at_frame p (here_of p r f i row) f)) w) → b ≡ true
+    test : (r : Routine) (b : Bool) → can_run p (here_of p r f i row) f w ≡ b → IsOpen (or_stuck b (act (at_frame p (here_of p r f i row) f)) w) → b ≡ true
     test r true t h = refl
     test r false t h = absurd h
 
@@ -39,7 +39,7 @@ opened p f i w row act e a free = go (routine_of p f.method) refl
         let h = here_of p r f i row in
         let first : act_here p f i w ≡ does_row p r f i (row_at (opcode i)) w = ap (λ (o : Option Routine). act_in p f i o w) b in
         let second : does_row p r f i (row_at (opcode i)) w ≡ does p h f (act_of (opcode i)) w = ap (λ (o : Option Shape). does_row p r f i o w) e in
-        let third : does p h f (act_of (opcode i)) w ≡ tested (can_run p h f w) (act (at_frame p h f)) w = ap (λ (o : Option Doing). does p h f o w) a in
+        let third : does p h f (act_of (opcode i)) w ≡ or_stuck (can_run p h f w) (act (at_frame p h f)) w = ap (λ (o : Option Doing). does p h f o w) a in
         let all = first ∙ second ∙ third in
         let t : can_run p h f w ≡ true = test r (can_run p h f w) refl (subst (λ (o : Outcome Act). IsOpen o) all free) in
-        record { routine = r; body = b; tests = t; does = all ∙ ap (λ (x : Bool). tested x (act (at_frame p h f)) w) t }
+        record { routine = r; body = b; tests = t; does = all ∙ ap (λ (x : Bool). or_stuck x (act (at_frame p h f)) w) t }

@@ -1,12 +1,12 @@
 -- What the tests of an instruction say, and where it finds its values, by the values that its row takes.
 use Rattle.std.proofs.Common.{◌≡◌, ℕ, ◌+◌, ◌-◌, ◌≤◌, List, [], ◌∷◌, length, drop, take, reverse, true, nat_le, get_or, refl, ap, ◌∙◌, arith}
 use Rattle.std.proofs.lemmas.Bool.{and_parts, leb-true}
-use Rattle.abc_meaning.specs.At.{At}
+use Rattle.abc_meaning.specs.At.{ActCase}
 use Rattle.abc_heap_values.specs.declared.values.Value.{Value}
 use Rattle.abc_heap_values.specs.declared.values.Value.TheVariants.{Undefined}
-use Rattle.abc_meaning.specs.Tests.{all_meet, at_frame, can_run, has_scope, name_parts, parts_count, values_of, walks_number}
+use Rattle.abc_meaning.specs.Tests.{all_meet, at_frame, can_run, has_scope, name_values, parts_count, values_of, walks_number}
 use Rattle.abc_verify_typing.specs.Instructions.{operand}
-use Rattle.abc_frames.specs.Frame.{Frame, dropped}
+use Rattle.abc_frames.specs.Frame.{Frame, after_drop}
 use Rattle.abc_verify_typing.specs.Effects.{Here, args, depth, needs}
 use Rattle.abc_verify_typing.specs.Rules.{has_form, has_locals, in_table, is_here, may_pop, may_push}
 use Rattle.abc_meaning.specs.Setting.{Setting}
@@ -70,8 +70,8 @@ no_args h e = rw e (omega arith)
 
 -- ---- where an instruction without arguments finds its values
 
-pub at_shape : (p : Setting) (h : Here) (f : Frame) (n : ℕ) (vs ps : List Value) → args h ≡ 0 → depth h ≡ n → values_of h.row.takes (parts_count h) f.stack ≡ vs → name_parts h.row.takes (parts_count h) f.stack ≡ ps → at_frame p h f ≡ record { setting = p; here = h; frame = f; rest = dropped n f; args = []; values = vs; parts = ps }
+pub at_shape : (p : Setting) (h : Here) (f : Frame) (n : ℕ) (vs ps : List Value) → args h ≡ 0 → depth h ≡ n → values_of h.row.takes (parts_count h) f.stack ≡ vs → name_values h.row.takes (parts_count h) f.stack ≡ ps → at_frame p h f ≡ record { setting = p; here = h; frame = f; rest = after_drop n f; args = []; values = vs; parts = ps }
 at_shape p h f n vs ps a d v q =
-    let mk : ℕ → ℕ → At = λ k m. record { setting = p; here = h; frame = f; rest = record f { stack = drop m f.stack }; args = reverse (take k f.stack); values = values_of h.row.takes (parts_count h) (drop k f.stack); parts = name_parts h.row.takes (parts_count h) (drop k f.stack) } in
-    let rest : List Value → List Value → At = λ xs ys. record { setting = p; here = h; frame = f; rest = dropped n f; args = []; values = xs; parts = ys } in
-    ap (λ (k : ℕ). mk k (depth h)) a ∙ ap (λ (m : ℕ). mk 0 m) d ∙ ap (λ (xs : List Value). rest xs (name_parts h.row.takes (parts_count h) f.stack)) v ∙ ap (λ (ys : List Value). rest vs ys) q
+    let mk : ℕ → ℕ → ActCase = λ k m. record { setting = p; here = h; frame = f; rest = record f { stack = drop m f.stack }; args = reverse (take k f.stack); values = values_of h.row.takes (parts_count h) (drop k f.stack); parts = name_values h.row.takes (parts_count h) (drop k f.stack) } in
+    let rest : List Value → List Value → ActCase = λ xs ys. record { setting = p; here = h; frame = f; rest = after_drop n f; args = []; values = xs; parts = ys } in
+    ap (λ (k : ℕ). mk k (depth h)) a ∙ ap (λ (m : ℕ). mk 0 m) d ∙ ap (λ (xs : List Value). rest xs (name_values h.row.takes (parts_count h) f.stack)) v ∙ ap (λ (ys : List Value). rest vs ys) q

@@ -9,10 +9,10 @@ use Rattle.abc_frames.specs.Frame.{Frame, newest}
 use Rattle.abc_file_types.specs.declared.code.Instr.{Instr}
 use Rattle.abc_verify_typing.specs.Routines.{Routine}
 use Rattle.abc_meaning.specs.Setting.{Setting, routine_of}
-use Rattle.abc_meaning.specs.World.{Run, stuck}
+use Rattle.abc_meaning.specs.World.{Run, sticks}
 use Rattle.abc_meaning.specs.At.{Act}
 use Rattle.abc_meaning.specs.Step.{does_row}
-use Rattle.abc_run_state.specs.Outer.{Outer, setting}
+use Rattle.abc_run_state.specs.Outer.{Outer, setting_in}
 use Rattle.abc_run_state.specs.Doing.{Does}
 use Rattle.abc_run_state.specs.Turns.{Leaves}
 use Rattle.abc_run_state.specs.declared.state.Left.{Left}
@@ -20,7 +20,7 @@ use Rattle.abc_run_state.specs.declared.state.State.{State}
 use Rattle.abc_run_state.specs.declared.state.Stop.{Stop}
 
 abbrev pub act_in : Setting → Frame → Instr → Option Routine → Run Act
-act_in p f i None = stuck
+act_in p f i None = sticks
 act_in p f i (Some r) = does_row p r f i (row_at (opcode i))
 
 -- the act of an instruction in a frame, by the table of acts
@@ -35,5 +35,5 @@ RunsHere l out i old result new = Does l out (λ p f. act_here p f i) old result
 
 -- it goes on, leaves something to be done, or stops
 pub record LeavesHere (l : LinkedFile) (out : Outer) (i : Instr) (old : State) (result : Result Left Stop) (new : State) : Type 0 where
-  pub leaves : Leaves l out (act_here (setting l out) (newest old.frames) i) old result new
+  pub leaves : Leaves l out (act_here (setting_in l out) (newest old.frames) i) old result new
   pub limit : new.given.limit ≡ old.given.limit

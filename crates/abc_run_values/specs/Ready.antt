@@ -3,7 +3,7 @@
 use Rattle.std.specs.Prelude.{◌≡◌, ◌+◌, ◌<◌, ◌^◌, length}
 use Rattle.abc_link_names.specs.Linked.{LinkedFile}
 use Rattle.abc_frames.specs.Frame.{newest, newest_size}
-use Rattle.abc_run_state.specs.Outer.{Outer, setting, world}
+use Rattle.abc_run_state.specs.Outer.{Outer, setting_in, world}
 use Rattle.abc_run_state.specs.Standing.{IsSet}
 use Rattle.abc_run_state.specs.Stops.{IsOpen}
 use Rattle.abc_run_state.specs.Turns.{size_for}
@@ -17,6 +17,6 @@ pub record CanRun (l : LinkedFile) (out : Outer) (s : State) (i : Instr) : Type 
   pub set : IsSet l s
   pub live : 0 < length s.frames.living
   pub place : (newest s.frames).place + 1 < 2 ^ 32
-  pub size : newest_size s.frames ≡ size_for (setting l out) (newest s.frames)
+  pub size : newest_size s.frames ≡ size_for (setting_in l out) (newest s.frames)
   pub spelled : IsSpelled i
-  pub free : IsOpen (act_here (setting l out) (newest s.frames) i (world s out))
+  pub free : IsOpen (act_here (setting_in l out) (newest s.frames) i (world s out))

@@ -6,7 +6,7 @@ use Rattle.abc_link_names.specs.Linked.{LinkedFile}
 use Rattle.abc_meaning.specs.At.{Act}
 use Rattle.abc_meaning.specs.Setting.{Setting}
 use Rattle.abc_meaning.specs.World.{Run}
-use Rattle.abc_run_state.specs.Outer.{Outer, setting}
+use Rattle.abc_run_state.specs.Outer.{Outer, setting_in}
 use Rattle.abc_run_state.specs.Turns.{Leaves}
 use Rattle.abc_run_state.specs.declared.state.Left.{Left}
 use Rattle.abc_run_state.specs.declared.state.Left.TheVariants as lefts
@@ -23,6 +23,6 @@ IsReturned (Err e) = Unit {0}
 
 -- it is done as an act says, which changes no state: what returns is put into `left`; or nothing is
 pub record ReturnsIf (done : Bool) (l : LinkedFile) (out : Outer) (act : Setting → Frame → Run Act) (s : State) (old new : Result Left Stop) : Type 0 where
-  pub leaves : done ≡ true → Leaves l out (act (setting l out) (newest s.frames)) s new s
+  pub leaves : done ≡ true → Leaves l out (act (setting_in l out) (newest s.frames)) s new s
   pub returns : done ≡ true → IsReturned new
   pub undone : done ≡ false → new ≡ old

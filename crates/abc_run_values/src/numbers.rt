@@ -1,5 +1,5 @@
 ghost use Rattle.std.specs.Prelude.{◌≡◌, ◌<◌, length};
-ghost use Rattle.abc_run_values.specs.Numbers.{are_numbers_on_top, is_number as is_number_value, is_number_on_top};
+ghost use Rattle.abc_run_values.specs.Numbers.{are_numbers_on_top, is_number_value, is_number_on_top};
 ghost use Rattle.abc_frames.specs.Frame.{newest};
 
 use abc_frames::Frames;

@@ -8,7 +8,7 @@ ghost use Rattle.abc_run_values.specs.Here.{LeavesHere, act_here};
 ghost use Rattle.abc_run_values.specs.Ready.{CanRun};
 ghost use Rattle.abc_run_values.specs.Returned.{IsReturned, ReturnsIf};
 ghost use Rattle.abc_frames.specs.Frame.{newest};
-ghost use Rattle.abc_run_state.specs.Outer.{Outer, setting, world};
+ghost use Rattle.abc_run_state.specs.Outer.{Outer, setting_in, world};
 ghost use Rattle.abc_run_state.specs.Stops.{IsOpen};
 ghost use Rattle.abc_run_state.specs.Turns.{Leaves};
 ghost use Rattle.abc_meaning.specs.World.{Went};
@@ -28,8 +28,9 @@ fn return_value(linked: &Linked, s: &mut State, v: Value) -> Result<Left, Stop>
     requires over { StandsOver linked.now s.old.arena }
     requires value { Exists linked.now s.old.arena v }
     requires live { 0 < length s.old.frames.living }
-    requires free { IsOpen (returns (setting linked.now out) (newest s.old.frames) v (world s.old out)) }
-    ensures leaves { Leaves linked.now out (returns (setting linked.now out) (newest s.old.frames) v) s.old result s.new }
+    requires free { IsOpen (returns (setting_in linked.now out) (newest s.old.frames) v (world s.old out)) }
+    ensures leaves { Leaves linked.now out (returns (setting_in linked.now out) (newest s.old.frames) v) s.old
+        result s.new }
     ensures returns { IsReturned result }
     ensures limit { s.new.given.limit ≡ s.old.given.limit }
 {
@@ -67,7 +68,9 @@ pub fn run_return(linked: &Linked, s: &mut State, op: u8) -> Result<Left, Stop>
 fn returns_whole(linked: &Linked, s: &State, v: Value) -> bool
     ghost out: { Outer }
     requires { 0 < length s.now.frames.living }
-    ensures { result ≡ true → returns (setting linked.now out) (newest s.now.frames) v (world s.now out) ≡ Went (world s.now out) (Returns v) }
+    ensures { result ≡ true
+        → returns (setting_in linked.now out) (newest s.now.frames) v (world s.now out)
+        ≡ Went (world s.now out) (Returns v) }
 {
     match linked.abc().methods.find(s.frames.method() as usize) {
         Some(method) => is_of_named(linked, method.ret, v),
@@ -95,7 +98,8 @@ fn returns_kept(linked: &Linked, s: &State, v: Value, left: &mut Result<Left, St
 fn returns_number(linked: &Linked, s: &State, left: &mut Result<Left, Stop>) -> bool
     ghost out: { Outer }
     requires { CanRun linked.now out s.now (Plain RETURNVALUE) }
-    ensures { ReturnsIf result linked.now out (λ p f. act_here p f (Plain RETURNVALUE)) s.now left.old left.new }
+    ensures { ReturnsIf result linked.now out (λ p f. act_here p f (Plain RETURNVALUE)) s.now left.old
+        left.new }
 {
     let v = operand(&s.frames, 0);
     match v {

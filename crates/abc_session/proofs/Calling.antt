@@ -7,7 +7,7 @@ use Rattle.std.specs.declared.result.Result.{Result}
 use Rattle.std.proofs.lemmas.List.{append-nil, append_assoc}
 use Rattle.abc_base.proofs.Writing.{front_first}
 use Rattle.abc_base.specs.Faults.{HasCause, Rose}
-use Rattle.abc_base.specs.Hosts.{arguments}
+use Rattle.abc_base.specs.Hosts.{plain_arguments}
 use Rattle.abc_base.specs.Sinks.{GrowsByFront, WritesAll}
 use Rattle.abc_base.specs.declared.formula.Formula.{Formula}
 use Rattle.abc_base.specs.declared.plain.Plain.{Plain}
@@ -20,10 +20,10 @@ use Rattle.abc_link_names.specs.Linked.{LinkedFile}
 use Rattle.abc_machine.specs.declared.ends.End.{End}
 use Rattle.abc_machine.specs.declared.ends.End.TheVariants as ends
 use Rattle.abc_machine.specs.Ended.{HasRun, IsEndOf, RunsAs}
-use Rattle.abc_machine.specs.Invoked.{Answers, call_of}
-use Rattle.abc_machine.specs.Machines.{IsReady, Opened}
+use Rattle.abc_machine.specs.Invoked.{AnswersCall, call_of}
+use Rattle.abc_machine.specs.Machines.{IsReadyToCall, Opened}
 use Rattle.abc_machine.specs.declared.replies.PlainValue.{PlainValue}
-use Rattle.abc_machine.specs.Replied.{IsReplyOf, RepliesAs, Tells, plain_value}
+use Rattle.abc_machine.specs.Replied.{IsReplyOf, RepliesAs, TellsValue, plain_value}
 use Rattle.abc_machine.specs.declared.replies.Reply as code
 use Rattle.abc_machine.specs.declared.replies.Reply.TheVariants as replies
 use Rattle.abc_session.specs.Sessions.{AnswersIn, HasCalled}
@@ -31,20 +31,20 @@ use Rattle.abc_session.specs.declared.replies.SessionReply.{SessionReply}
 use Rattle.abc_session.specs.declared.replies.SessionReply.TheVariants as answers
 use Rattle.abc_file_types.specs.declared.tables.Abc.{Abc}
 use Rattle.abc_session.proofs.Pieces.{front_both, got_both, nothing}
-use Rattle.abc_session.specs.Ticks.{after, calls_run, then_follows, then_goes, tick, ticks, ticks_run, value_line}
-use Rattle.abc_session.specs.Told.{GoesOn, GoesOnAs, TellsAs, Told, Tried, value_or_end}
+use Rattle.abc_session.specs.Ticks.{with_output_before, calls_run, then_follows, then_goes, tick, ticks, ticks_run, value_line}
+use Rattle.abc_session.specs.Told.{GoesOn, GoesOnToCall, TellsAs, Told, Tried, value_or_end}
 
 -- ---- what was written before
 
-after_nothing : (m : Meaning) → after [] m ≡ m
+after_nothing : (m : Meaning) → with_output_before [] m ≡ m
 after_nothing (TooSmall limit) = refl
 after_nothing (Ran more e) = refl
 
-after_after : (xs ys : List ℕ) (m : Meaning) → after xs (after ys m) ≡ after (xs ++ ys) m
+after_after : (xs ys : List ℕ) (m : Meaning) → with_output_before xs (with_output_before ys m) ≡ with_output_before (xs ++ ys) m
 after_after xs ys (TooSmall limit) = refl
 after_after xs ys (Ran more e) = ap (λ (l : List ℕ). Ran l e) (sym (append_assoc xs ys more))
 
-pub runs_after : (m : Meaning) (xs : List ℕ) (old mid new : Option (List ℕ)) (end : End) → (IsSome old → mid ≡ append_known old xs) → RunsAs m mid new end → RunsAs (after xs m) old new end
+pub runs_after : (m : Meaning) (xs : List ℕ) (old mid new : Option (List ℕ)) (end : End) → (IsSome old → mid ≡ append_known old xs) → RunsAs m mid new end → RunsAs (with_output_before xs m) old new end
 runs_after m xs old mid new end got (RunsAs.ended more e x is more_got) = RunsAs.ended (xs ++ more) e x is (got_both old mid new xs more got more_got)
 runs_after m xs old mid new end got (RunsAs.failed more e front) = RunsAs.failed (xs ++ more) e (front_both old mid new xs more got front)
 
@@ -54,8 +54,8 @@ pub record IsRun (m : Meaning) : Type 0 where
   pub end : meant.End
   pub is : m ≡ Ran wrote end
 
-run_later : (xs : List ℕ) (m : Meaning) → IsRun m → IsRun (after xs m)
-run_later xs m r = record { wrote = xs ++ r.wrote; end = r.end; is = ap (after xs) r.is }
+run_later : (xs : List ℕ) (m : Meaning) → IsRun m → IsRun (with_output_before xs m)
+run_later xs m r = record { wrote = xs ++ r.wrote; end = r.end; is = ap (with_output_before xs) r.is }
 
 goes_run : (v : Abc) (w : World) (r : Reply) (m : Meaning) → IsRun m → IsRun (then_goes v w r m)
 goes_run v w (Gives x) m r = run_later (w.wrote ++ value_line v w.heap (plain_value x)) m r
@@ -65,9 +65,9 @@ pub calls_are_run : (v : Abc) (rs : List Replied) → IsRun (calls_run v rs)
 calls_are_run v [] = record { wrote = []; end = meant.Done; is = refl }
 calls_are_run v (r ∷ rs) = goes_run v r.world r.reply (calls_run v rs) (calls_are_run v rs)
 
-pub fails_after : (xs : List ℕ) (m : Meaning) (old new : Option (List ℕ)) → IsRun m → (IsSome old → GrowsByFront old new xs) → RunsAs (after xs m) old new ends.WriteFault
+pub fails_after : (xs : List ℕ) (m : Meaning) (old new : Option (List ℕ)) → IsRun m → (IsSome old → GrowsByFront old new xs) → RunsAs (with_output_before xs m) old new ends.WriteFault
 fails_after xs m old new r front =
-    subst (λ (x : Meaning). RunsAs x old new ends.WriteFault) (sym (ap (after xs) r.is)) (RunsAs.failed (xs ++ r.wrote) r.end (λ some. front_first old new xs r.wrote (front some)))
+    subst (λ (x : Meaning). RunsAs x old new ends.WriteFault) (sym (ap (with_output_before xs) r.is)) (RunsAs.failed (xs ++ r.wrote) r.end (λ some. front_first old new xs r.wrote (front some)))
 
 -- ---- one call
 
@@ -109,7 +109,7 @@ replied_ends v r rest old new reply end (RepliesAs.failed x front) e =
     let f : ends.WriteFault ≡ end = cc in
     subst (λ (y : End). RunsAs (calls_run v (x ∷ rest)) old new y) f (call_failed v x rest old new front)
 
-replied_value : (r : Replied) (old new : Option (List ℕ)) (reply : code.Reply) (value : PlainValue) → reply ≡ replies.Value value → RepliesAs r old new reply → Tells r.reply value × (IsSome old → new ≡ append_known old r.world.wrote)
+replied_value : (r : Replied) (old new : Option (List ℕ)) (reply : code.Reply) (value : PlainValue) → reply ≡ replies.Value value → RepliesAs r old new reply → TellsValue r.reply value × (IsSome old → new ≡ append_known old r.world.wrote)
 replied_value r old new reply value e (RepliesAs.replied x rep is got) = (subst (IsReplyOf x.reply) e is, got)
 replied_value r old new reply value e (RepliesAs.failed x front) = absurd cc
 
@@ -126,11 +126,11 @@ answer_value answers.NotReady value e = absurd cc
 answer_value answers.Closed value e = absurd cc
 
 -- a call with one number is one of these
-pub as_tick : (old new : Opened) (method fuel : ℕ) (fs : List Formula) (number : ℕ) (args : Plain) (before now : Option (List ℕ)) (answer : SessionReply) → arguments args ≡ pos number ∷ [] → AnswersIn old new (call_of method args fuel fs) before now answer
+pub as_tick : (old new : Opened) (method fuel : ℕ) (fs : List Formula) (number : ℕ) (args : Plain) (before now : Option (List ℕ)) (answer : SessionReply) → plain_arguments args ≡ pos number ∷ [] → AnswersIn old new (call_of method args fuel fs) before now answer
     → AnswersIn old new (tick method fuel fs number) before now answer
 as_tick old new method fuel fs number args before now answer e a = subst (λ (x : List ℤ). AnswersIn old new (record { method = method; args = x; fuel = fuel; formulas = fs }) before now answer) e a
 
-module _ (old new : Opened) (c : Call) (ready : IsReady old) where
+module _ (old new : Opened) (c : Call) (ready : IsReadyToCall old) where
   abbrev r : Replied
   r = answers_call old.linked old.world c
 
@@ -141,10 +141,10 @@ module _ (old new : Opened) (c : Call) (ready : IsReady old) where
 
   -- a value was given
   module _ (before mid : Option (List ℕ)) (answer : SessionReply) (value : PlainValue) (a : AnswersIn old new c before mid answer) (e : value_or_end answer ≡ Ok value) where
-    given : Answers old new c before mid (replies.Value value)
+    given : AnswersCall old new c before mid (replies.Value value)
     given = (subst (λ (x : SessionReply). AnswersIn old new c before mid x) (answer_value answer value e) a).answers
 
-    tells : Tells r.reply value × (IsSome before → mid ≡ append_known before r.world.wrote)
+    tells : TellsValue r.reply value × (IsSome before → mid ≡ append_known before r.world.wrote)
     tells = replied_value r before mid (replies.Value value) value refl given.replies
 
     left : new.world ≡ silent r.world
@@ -183,7 +183,7 @@ module _ (old new : Opened) (c : Call) (ready : IsReady old) where
     told_as now (Ok u) wrote fault = is_told now wrote
     told_as now (Err end) wrote fault = λ rest. subst (λ (x : End). RunsAs (calls_run old.linked.file (r ∷ rest)) before now x) (sym fault) (not_told now rest wrote)
 
-    pub goes_on_as : (result : Result Unit End) → GoesOnAs old new r result
+    pub goes_on_as : (result : Result Unit End) → GoesOnToCall old new r result
     goes_on_as (Ok u) = goes_on
     goes_on_as (Err end) = tt
 
@@ -193,7 +193,7 @@ module _ (old new : Opened) (c : Call) (ready : IsReady old) where
   stays_linked before now answers.Closed a = ap (λ (m : Opened). m.linked) a.rests.same
 
 -- a failed write is told as one
-answer_fault : (answer : SessionReply) → value_or_end answer ≡ Err ends.WriteFault → (old new : Opened) (c : Call) (before now : Option (List ℕ)) → IsReady old → AnswersIn old new c before now answer → answer ≡ answers.Reply replies.WriteFault
+answer_fault : (answer : SessionReply) → value_or_end answer ≡ Err ends.WriteFault → (old new : Opened) (c : Call) (before now : Option (List ℕ)) → IsReadyToCall old → AnswersIn old new c before now answer → answer ≡ answers.Reply replies.WriteFault
 answer_fault (answers.Reply (replies.Value x)) e old new c before now ready a = absurd cc
 answer_fault (answers.Reply (replies.Uncaught t)) e old new c before now ready a = absurd cc
 answer_fault (answers.Reply (replies.Profile m i fault)) e old new c before now ready a = absurd cc
@@ -203,7 +203,7 @@ answer_fault (answers.Reply replies.WriteFault) e old new c before now ready a =
 answer_fault answers.NotReady e old new c before now ready a = absurd (a.unready ready.done)
 answer_fault answers.Closed e old new c before now ready a = let f : true ≡ false = sym a.closed ∙ ready.still in absurd cc
 
-pub tried_end : (old new : Opened) (c : Call) (before now : Option (List ℕ)) (n k : ℕ) (answer : SessionReply) (end : End) → IsReady old → AnswersIn old new c before now answer → HasCalled n k answer → value_or_end answer ≡ Err end → Tried n k (Err end)
+pub tried_end : (old new : Opened) (c : Call) (before now : Option (List ℕ)) (n k : ℕ) (answer : SessionReply) (end : End) → IsReadyToCall old → AnswersIn old new c before now answer → HasCalled n k answer → value_or_end answer ≡ Err end → Tried n k (Err end)
 tried_end old new c before now n k answer end ready a h e = record {
   later = h.later;
   failed = λ f. let g : end ≡ ends.WriteFault = cc in h.failed (answer_fault answer (e ∙ ap (λ (x : End). Err x) g) old new c before now ready a);
@@ -241,13 +241,13 @@ module _ (first : Opened) (method fuel : ℕ) (fs : List Formula) (times : ℕ) 
   pub record AreCalled (m : Opened) (number : ℕ) (before now : Option (List ℕ)) : Type 0 where
     pub wrote : List ℕ
     pub few : number ≤ times
-    pub goes : left_at first.world 0 times ≡ after wrote (left_at m.world number (times - number))
+    pub goes : left_at first.world 0 times ≡ with_output_before wrote (left_at m.world number (times - number))
     pub sink : IsSome before → now ≡ append_known before wrote
-    pub ready : IsReady m
+    pub ready : IsReadyToCall m
     pub linked : m.linked ≡ first.linked
     pub names : m.names ≡ first.names
 
-  pub none_called : (before : Option (List ℕ)) → IsReady first → AreCalled first 0 before before
+  pub none_called : (before : Option (List ℕ)) → IsReadyToCall first → AreCalled first 0 before before
   none_called before ready = record {
     wrote = [];
     few = omega arith;
@@ -274,8 +274,8 @@ module _ (first : Opened) (method fuel : ℕ) (fs : List Formula) (times : ℕ) 
         wrote = a.wrote ++ (r.world.wrote ++ line);
         few = omega (arith, low);
         goes =
-            a.goes ∙ ap (after a.wrote) (one_left m.world number low ∙ ap (λ (x : Reply). then_goes v r.world x more) t.gives) ∙ after_after a.wrote (r.world.wrote ++ line) more
-            ∙ ap (λ (rs : List Replied). after (a.wrote ++ (r.world.wrote ++ line)) (calls_run v rs)) (sym (kept_session first.linked n.world r.world (ticks method fuel fs (number + 1) (times - (number + 1))) world));
+            a.goes ∙ ap (with_output_before a.wrote) (one_left m.world number low ∙ ap (λ (x : Reply). then_goes v r.world x more) t.gives) ∙ after_after a.wrote (r.world.wrote ++ line) more
+            ∙ ap (λ (rs : List Replied). with_output_before (a.wrote ++ (r.world.wrote ++ line)) (calls_run v rs)) (sym (kept_session first.linked n.world r.world (ticks method fuel fs (number + 1) (times - (number + 1))) world));
         sink = got_both before now next a.wrote (r.world.wrote ++ line) a.sink t.sink;
         ready = g.ready;
         linked = g.linked ∙ a.linked;
@@ -285,7 +285,7 @@ module _ (first : Opened) (method fuel : ℕ) (fs : List Formula) (times : ℕ) 
   pub all_called : (m : Opened) (number : ℕ) (before now : Option (List ℕ)) → number ≡ times → AreCalled m number before now → RunsAs (left_at first.world 0 times) before now ends.Done
   all_called m number before now all a =
       let none : times - number ≡ 0 = omega (arith, all) in
-      subst (λ (x : Meaning). RunsAs x before now ends.Done) (sym (a.goes ∙ ap (λ (k : ℕ). after a.wrote (left_at m.world number k)) none ∙ ap (λ (l : List ℕ). Ran l meant.Done) (append-nil a.wrote)))
+      subst (λ (x : Meaning). RunsAs x before now ends.Done) (sym (a.goes ∙ ap (λ (k : ℕ). with_output_before a.wrote (left_at m.world number k)) none ∙ ap (λ (l : List ℕ). Ran l meant.Done) (append-nil a.wrote)))
       (RunsAs.ended a.wrote meant.Done ends.Done refl a.sink)
 
   pub call_stops : (m : Opened) (number : ℕ) (before now next : Option (List ℕ)) (end : End) → number < times → AreCalled m number before now
@@ -294,4 +294,4 @@ module _ (first : Opened) (method fuel : ℕ) (fs : List Formula) (times : ℕ) 
       let r = call m.world number in
       let rest = session first.linked r.world (ticks method fuel fs (number + 1) (times - (number + 1))) in
       let s = subst (λ (l : LinkedFile). RunsAs (calls_run l.file (answers_call l m.world (tick method fuel fs number) ∷ rest)) now next end) a.linked (stops rest) in
-      subst (λ (x : Meaning). RunsAs x before next end) (sym (a.goes ∙ ap (after a.wrote) (one_left m.world number low))) (runs_after (calls_run v (r ∷ rest)) a.wrote before now next end a.sink s)
+      subst (λ (x : Meaning). RunsAs x before next end) (sym (a.goes ∙ ap (with_output_before a.wrote) (one_left m.world number low))) (runs_after (calls_run v (r ∷ rest)) a.wrote before now next end a.sink s)

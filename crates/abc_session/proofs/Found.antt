@@ -3,7 +3,7 @@ use Rattle.std.proofs.Common.{◌≡◌, inl, inr, ℕ, List, [], ◌∷◌, Boo
 use Rattle.std.specs.Prelude.{IfSome, None, Some}
 use Rattle.std.specs.List.{find}
 use Rattle.std.specs.declared.option.Option.{Option}
-use Rattle.abc_meaning.specs.Exports.{IsScriptMethod, export, is_export, method_in, method_of_trait}
+use Rattle.abc_meaning.specs.Exports.{IsScriptMethod, export, is_export, exported_method, method_of_trait}
 use Rattle.abc_link_names.specs.PartsByNumber.{script_at}
 use Rattle.abc_meaning.specs.Throwing.{last_script}
 use Rattle.abc_file_types.specs.declared.traits.TraitBody.{TraitBody}
@@ -20,7 +20,7 @@ found_among test (x ∷ xs) t e = go (found_among test xs t) (test x) e
     go more true e = let same : t ≡ x = cc in inl same
     go more false e = inr (more e)
 
-method_there : (b : TraitBody) (m : ℕ) → method_in b ≡ Some m → (disp : ℕ) × (b ≡ bodies.Method disp m)
+method_there : (b : TraitBody) (m : ℕ) → exported_method b ≡ Some m → (disp : ℕ) × (b ≡ bodies.Method disp m)
 method_there (bodies.Method disp n) m e = let same : n ≡ m = cc in (disp, ap (bodies.Method disp) same)
 method_there (bodies.Slot id ty value constant) m e = absurd cc
 method_there (bodies.Getter disp n) m e = absurd cc

@@ -4,8 +4,8 @@ use Rattle.std.proofs.lemmas.Option.{none-some}
 use Rattle.std.specs.Prelude.{◌≢◌, None, Some, true, false}
 use Rattle.std.specs.declared.option.Option.{Option}
 use Rattle.abc_base.specs.declared.formula.Formula.{Formula}
-use Rattle.abc_machine.specs.Invoked.{Answers}
-use Rattle.abc_machine.specs.Machines.{IsReady, Opened}
+use Rattle.abc_machine.specs.Invoked.{AnswersCall}
+use Rattle.abc_machine.specs.Machines.{IsReadyToCall, Opened}
 use Rattle.abc_machine.specs.OneRun.{HasEnded, LeavesRun}
 use Rattle.abc_machine.specs.Replied.{is_write_fault}
 use Rattle.abc_machine.specs.declared.ends.End.{End}
@@ -46,7 +46,7 @@ started_beside old new end fuel host formulas has leaves again beside = go old.e
 not_failed : (reply : Reply) → is_write_fault reply ≡ false → reply ≢ WriteFault
 not_failed reply still is = absurd (let e : true ≡ false = sym (ap is_write_fault is) ∙ still in cc)
 
-answered_beside : (old new : Opened) (c : Call) (before now : Option (List ℕ)) (reply : Reply) (formulas : List Formula) → IsReady old → Answers old new c before now reply → IsBeside old formulas → IsBeside new formulas
+answered_beside : (old new : Opened) (c : Call) (before now : Option (List ℕ)) (reply : Reply) (formulas : List Formula) → IsReadyToCall old → AnswersCall old new c before now reply → IsBeside old formulas → IsBeside new formulas
 answered_beside old new c before now reply formulas ready a beside = record {
   new = λ is. absurd (none-some ends.Done (sym is ∙ a.ended ∙ ready.done));
   ready = λ next. beside.ready ready ∙ sym (a.names (not_failed reply (sym a.closed ∙ next.still)));

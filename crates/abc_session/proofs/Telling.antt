@@ -9,7 +9,7 @@ use Rattle.abc_meaning.specs.Exports.{IsScriptMethod}
 use Rattle.abc_meaning_sound.specs.Placed.{CallsCanBeTold, FaultsArePlaced, RunsEndSound}
 use Rattle.abc_meaning.specs.Told.{CanBeTold, IsInstruction}
 use Rattle.abc_heap_store.specs.declared.records.Limits.{Limits}
-use Rattle.abc_meaning.specs.ThrowLaws.{AreCounted, IsNeverStuck, IsVerified}
+use Rattle.abc_meaning.specs.ThrowLaws.{AreCounted, IsNeverStuck, IsVerifiedSetting}
 use Rattle.abc_meaning.specs.Meaning.{Meaning, Ran, TooSmall, first_state, first_world, runs_for, too_small}
 use Rattle.abc_meaning.specs.Sound.{WorldSound}
 use Rattle.abc_meaning.specs.Throwing as meant
@@ -19,7 +19,7 @@ use Rattle.abc_machine.specs.Replied.{plain_value}
 use Rattle.abc_file_types.specs.declared.tables.Abc.{Abc}
 use Rattle.abc_session.proofs.TicksFollowing.{run_is}
 use Rattle.abc_session.specs.Laws.{TicksCanBeTold}
-use Rattle.abc_session.specs.Ticks.{after, calls_meaning, calls_run, then_follows, then_goes, tick, ticks, ticks_run, value_line}
+use Rattle.abc_session.specs.Ticks.{with_output_before, calls_meaning, calls_run, then_follows, then_goes, tick, ticks, ticks_run, value_line}
 
 record IsToldEnd (v : Abc) (e : meant.End) : Type 0 where
   unstuck : e ≢ meant.Stuck
@@ -32,7 +32,7 @@ IsToldRun v (Ran wrote e) = IsToldEnd v e
 told_done : (v : Abc) → IsToldEnd v meant.Done
 told_done v = record { unstuck = λ h. cc; placed = λ n i fault h. absurd cc }
 
-told_after : (v : Abc) (xs : List ℕ) (m : Meaning) → IsToldRun v m → IsToldRun v (after xs m)
+told_after : (v : Abc) (xs : List ℕ) (m : Meaning) → IsToldRun v m → IsToldRun v (with_output_before xs m)
 told_after v xs (TooSmall limit) t = tt
 told_after v xs (Ran wrote e) t = t
 
@@ -53,7 +53,7 @@ reply_told : (v : Abc) (w : World) (r : Reply) (more : Meaning) → (r ≢ EndsA
 reply_told v w (Gives x) more unstuck placed t = told_after v (w.wrote ++ value_line v w.heap (plain_value x)) more t
 reply_told v w (EndsAs e) more unstuck placed t = record { unstuck = λ h. unstuck (ap EndsAs h); placed = λ n i fault h. placed n i fault (ap EndsAs h) }
 
-module _ (p : Setting) (method fuel : ℕ) (calls : CallsCanBeTold) (verified : IsVerified p) (exported : IsScriptMethod p method) where
+module _ (p : Setting) (method fuel : ℕ) (calls : CallsCanBeTold) (verified : IsVerifiedSetting p) (exported : IsScriptMethod p method) where
   ticks_told : (times number : ℕ) (w : World) → number + times ≤ 4294967296 → WorldSound p w → IsToldRun p.linked.file (calls_run p.linked.file (session p.linked w (ticks method fuel p.formulas number times)))
   ticks_told zero number w few sound = told_done p.linked.file
   ticks_told (suc times) number w few sound =

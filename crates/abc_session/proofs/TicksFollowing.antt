@@ -18,9 +18,9 @@ use Rattle.abc_link_names.specs.Linked.{LinkedFile}
 use Rattle.abc_machine.specs.declared.ends.End.{End}
 use Rattle.abc_machine.specs.declared.ends.End.TheVariants as ends
 use Rattle.abc_machine.specs.Ended.{HasRun, IsEndOf, RunsAs}
-use Rattle.abc_machine.specs.Machines.{IsOpened, IsReady, Opened, world_run}
+use Rattle.abc_machine.specs.Machines.{IsOpened, IsReadyToCall, Opened, world_run}
 use Rattle.abc_session.proofs.Calling.{IsRun, calls_are_run, fails_after, kept_session, runs_after}
-use Rattle.abc_session.specs.Ticks.{after, calls_meaning, calls_run, then_follows, ticks, ticks_run}
+use Rattle.abc_session.specs.Ticks.{with_output_before, calls_meaning, calls_run, then_follows, ticks, ticks_run}
 use Rattle.abc_session.specs.Told.{Tried}
 
 -- an opened machine's meaning is its run
@@ -120,7 +120,7 @@ pub same_names : (old : Opened) (fs : List Formula) → IsOpened old.linked fs o
 same_names old fs opened = sym (ap (λ (m : Opened). m.names) opened.is)
 
 module _ (old new : Opened) (fs : List Formula) (fuel : ℕ) (method : ℕ) (result : End) (opened : IsOpened old.linked fs old.limits old) where
-  pub gets_ready : new.ended ≡ Some result → result ≡ ends.Done → new.closed ≡ old.closed → IsReady new
+  pub gets_ready : new.ended ≡ Some result → result ≡ ends.Done → new.closed ≡ old.closed → IsReadyToCall new
   gets_ready ended done same = record { done = ended ∙ ap (λ (x : End). Some x) done; still = same ∙ ap (λ (m : Opened). m.closed) opened.is }
 
   not_fault : result ≡ ends.Done → result ≢ ends.WriteFault

@@ -4,7 +4,7 @@ use Rattle.std.specs.declared.option.Option.{Option}
 use Rattle.abc_base.specs.declared.formula.Formula.{Formula}
 use Rattle.abc_heap_store.specs.declared.records.Limits.{Limits}
 use Rattle.abc_link_names.specs.Linked.{LinkedFile}
-use Rattle.abc_machine.specs.Machines.{IsOpened, IsReady, Opened}
+use Rattle.abc_machine.specs.Machines.{IsOpened, IsReadyToCall, Opened}
 use Rattle.abc_machine.specs.OneRun.{HasEnded, LeavesRun}
 use Rattle.abc_machine.specs.declared.ends.End.{End}
 use Rattle.abc_meaning.specs.Calls.{Call}
@@ -15,7 +15,7 @@ use Rattle.abc_session.specs.declared.replies.SessionReply.{SessionReply}
 -- while it can be started, and while it is ready for calls, a host of these formulas has the names that it was opened with
 pub record IsBeside (m : Opened) (formulas : List Formula) : Type 0 where
   pub new : m.ended ≡ None → formula_names formulas ≡ m.names
-  pub ready : IsReady m → formula_names formulas ≡ m.names
+  pub ready : IsReadyToCall m → formula_names formulas ≡ m.names
 
 -- so it is of a session that was opened beside that host
 abbrev pub OpenedBeside : Type 0

@@ -18,7 +18,7 @@ use Rattle.abc_meaning.specs.Calls.{Replied, session}
 use Rattle.abc_meaning.specs.Meaning.{first_state, meaning, runs_for}
 use Rattle.abc_meaning.specs.Openings.{setting}
 use Rattle.abc_meaning.specs.World.{World}
-use Rattle.abc_session.specs.Sessions.{AreMade, Follow, Made}
+use Rattle.abc_session.specs.Sessions.{AreCallsMade, Follow, Made}
 use Rattle.abc_session.specs.declared.replies.SessionReply.TheVariants as answers
 
 -- the session that was opened; its start, beside a host of some formulas: the fuel, how it ended, and what the sink had before and after
@@ -40,23 +40,23 @@ pub record IsLived (l : LinkedFile) (formulas : List Formula) (limits : Limits) 
   pub runs : RunsAs (meaning_of life.opened life.formulas life.fuel) life.before life.now life.end
   pub leaves : LeavesRun life.opened life.started life.formulas life.fuel life.end
   pub ended : HasEnded life.opened life.started life.end
-  pub calls : AreMade life.started life.calls life.last
+  pub calls : AreCallsMade life.started life.calls life.last
 
 -- what the calls mean, each in the world that the run and the calls before it left
-abbrev pub world_run : LinkedFile → Limits → Life → World
-world_run l limits life = (runs_for (setting l life.formulas) life.fuel (first_state (setting l life.formulas) limits)).world
+abbrev pub world_of_start : LinkedFile → Limits → Life → World
+world_of_start l limits life = (runs_for (setting l life.formulas) life.fuel (first_state (setting l life.formulas) limits)).world
 
 abbrev pub replies_meant : LinkedFile → Limits → Life → List Replied
-replies_meant l limits life = session l (world_run l limits life) (map (λ d. d.call) life.calls)
+replies_meant l limits life = session l (world_of_start l limits life) (map (λ d. d.call) life.calls)
 
 -- a text that a call gave can be told in the end, with the bytes that it was given with
-abbrev pub TellsText : LinkedFile → Replied → Made → Opened → Type 0
-TellsText l r d last = (s : Span) → d.reply ≡ answers.Reply (Value (Text s)) → CanTell last s × (told_text last s ≡ text_of l.file.strings r.world.heap s)
+abbrev pub TellsTextInTheEnd : LinkedFile → Replied → Made → Opened → Type 0
+TellsTextInTheEnd l r d last = (s : Span) → d.reply ≡ answers.Reply (Value (Text s)) → CanTell last s × (told_text last s ≡ text_of l.file.strings r.world.heap s)
 
 abbrev pub TellTexts : LinkedFile → List Replied → List Made → Opened → Type 0
 TellTexts l [] ds last = Unit {0}
 TellTexts l (r ∷ rs) [] last = Unit {0}
-TellTexts l (r ∷ rs) (d ∷ ds) last = TellsText l r d last × TellTexts l rs ds last
+TellTexts l (r ∷ rs) (d ∷ ds) last = TellsTextInTheEnd l r d last × TellTexts l rs ds last
 
 -- the start answers the meaning's end, each call its own meaning, and without a start that was done no call does anything
 pub record MeansLife (l : LinkedFile) (limits : Limits) (life : Life) : Type 0 where

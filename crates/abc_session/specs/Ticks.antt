@@ -42,13 +42,13 @@ ticks method fuel formulas number zero = []
 ticks method fuel formulas number (suc times) = tick method fuel formulas number ∷ ticks method fuel formulas (number + 1) times
 
 -- what was written before stands in front
-abbrev pub after : List ℕ → Meaning → Meaning
-after wrote (TooSmall limit) = TooSmall limit
-after wrote (Ran more e) = Ran (wrote ++ more) e
+abbrev pub with_output_before : List ℕ → Meaning → Meaning
+with_output_before wrote (TooSmall limit) = TooSmall limit
+with_output_before wrote (Ran more e) = Ran (wrote ++ more) e
 
 -- a value is told on a line, and then come the other calls; any other end is the end of all
 abbrev pub then_goes : Abc → World → Reply → Meaning → Meaning
-then_goes v w (Gives x) more = after (w.wrote ++ value_line v w.heap (plain_value x)) more
+then_goes v w (Gives x) more = with_output_before (w.wrote ++ value_line v w.heap (plain_value x)) more
 then_goes v w (EndsAs e) more = Ran w.wrote e
 
 -- calls as one run: what is written, and how it ends
@@ -60,7 +60,7 @@ calls_run v (r ∷ rs) = then_goes v r.world r.reply (calls_run v rs)
 
 -- where a run is done, more follows in the world that it left
 abbrev pub then_follows : World → End → (World → Meaning) → Meaning
-then_follows w Done more = after w.wrote (more w)
+then_follows w Done more = with_output_before w.wrote (more w)
 then_follows w e more = Ran w.wrote e
 
 abbrev pub ticks_run : Setting → (method fuel times : ℕ) → World → Meaning

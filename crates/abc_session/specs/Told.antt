@@ -10,7 +10,7 @@ use Rattle.abc_meaning.specs.Calls.{Gives, Replied, silent}
 use Rattle.abc_machine.specs.declared.ends.End.{End}
 use Rattle.abc_machine.specs.declared.ends.End.TheVariants as ends
 use Rattle.abc_machine.specs.Ended.{RunsAs}
-use Rattle.abc_machine.specs.Machines.{IsReady, Opened}
+use Rattle.abc_machine.specs.Machines.{IsReadyToCall, Opened}
 use Rattle.abc_machine.specs.declared.replies.PlainValue.{PlainValue}
 use Rattle.abc_machine.specs.declared.replies.PlainValue.TheVariants as values
 use Rattle.abc_machine.specs.Replied.{plain_value}
@@ -22,8 +22,8 @@ use Rattle.abc_file_types.specs.declared.tables.Abc.{Abc}
 use Rattle.abc_session.specs.Ticks.{calls_run, value_line}
 
 -- a text that a value tells can be told
-abbrev pub HasText : Opened → PlainValue → Type 0
-HasText m value = (s : Span) → value ≡ values.Text s → CanTell m s
+abbrev pub HasToldText : Opened → PlainValue → Type 0
+HasToldText m value = (s : Span) → value ≡ values.Text s → CanTell m s
 
 -- the value that a call gave, or how all ends; a session that answers nothing ends as one whose sink failed
 abbrev pub value_or_end : SessionReply → Result PlainValue End
@@ -49,14 +49,14 @@ TellsAs v r before now (Err end) = (rest : List Replied) → RunsAs (calls_run v
 
 -- the session goes on from the world that a call left
 pub record GoesOn (old new : Opened) (r : Replied) : Type 0 where
-  pub ready : IsReady new
+  pub ready : IsReadyToCall new
   pub linked : new.linked ≡ old.linked
   pub names : new.names ≡ old.names
   pub world : new.world ≡ silent r.world
 
-abbrev pub GoesOnAs : Opened → Opened → Replied → Result Unit End → Type 0
-GoesOnAs old new r (Ok u) = GoesOn old new r
-GoesOnAs old new r (Err end) = Unit {0}
+abbrev pub GoesOnToCall : Opened → Opened → Replied → Result Unit End → Type 0
+GoesOnToCall old new r (Ok u) = GoesOn old new r
+GoesOnToCall old new r (Err end) = Unit {0}
 
 -- the sink's count of faults never falls, and it rose where writing failed
 pub record Tried (before now : ℕ) (result : Result Unit End) : Type 0 where

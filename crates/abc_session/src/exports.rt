@@ -1,7 +1,7 @@
 ghost use Rattle.std.specs.Prelude.{◌≡◌, List};
 ghost use Rattle.std.specs.List.{find};
 ghost use Rattle.abc_base.specs.declared.formula.Formula.{Formula};
-ghost use Rattle.abc_meaning.specs.Exports.{export as export_of, has_public_name as is_named, is_export, method_in as method_of, method_of_trait};
+ghost use Rattle.abc_meaning.specs.Exports.{export as export_of, has_public_name as is_named, is_export, exported_method as method_of, method_of_trait};
 ghost use Rattle.abc_link_names.specs.PartsByNumber.{script_at};
 ghost use Rattle.abc_meaning.specs.Throwing.{last_script};
 ghost use Rattle.abc_link_names.specs.Pool.{name as name_of, qname};
@@ -54,7 +54,8 @@ fn export_among(linked: &Linked, traits: &[TraitInfo], text: &[u8]) -> Option<u3
 /// The traits of the last script.
 #[tactic(auto, using(abc_base::proofs::Past::past_end))]
 fn last_traits(linked: &Linked) -> &[TraitInfo]
-    ensures { (formulas : List Formula) → result.now ≡ (script_at linked.now.file (last_script (setting linked.now formulas))).traits }
+    ensures { (formulas : List Formula)
+        → result.now ≡ (script_at linked.now.file (last_script (setting linked.now formulas))).traits }
 {
     let scripts = &linked.abc().scripts;
     match scripts.find(scripts.len().saturating_sub(1)) {

@@ -5,14 +5,14 @@ ghost use Rattle.abc_heap_values.specs.declared.values.Span.{Span};
 ghost use Rattle.abc_machine.specs.Ended.{HasRun, RunsAs};
 ghost use Rattle.abc_machine.specs.Invoked.{call_of};
 ghost use Rattle.abc_machine.specs.OneRun.{AnswersAgain, HasEnded, LeavesRun, meaning_of};
-ghost use Rattle.abc_machine.specs.Machines.{IsOpened, IsReady};
+ghost use Rattle.abc_machine.specs.Machines.{IsOpened, IsReadyToCall};
 ghost use Rattle.abc_machine.specs.declared.ends.End.{End};
 ghost use Rattle.abc_machine.specs.declared.ends.End.TheVariants.{WriteFault};
 ghost use Rattle.abc_machine.specs.declared.replies.PlainValue.TheVariants.{Text};
 ghost use Rattle.abc_machine.specs.declared.replies.Reply.TheVariants.{Value};
 ghost use Rattle.abc_meaning.specs.Meaning.{meaning};
 ghost use Rattle.abc_objects.specs.Opening.{formula_names};
-ghost use Rattle.abc_meaning.specs.Openings.{IsRefused, setting};
+ghost use Rattle.abc_meaning.specs.Openings.{IsOpeningRefused, setting};
 ghost use Rattle.abc_machine.specs.Texts.{CanTell, KeepsTexts, told_text};
 ghost use Rattle.abc_session.specs.Sessions.{AnswersIn, HasCalled, LeavesSink};
 
@@ -61,7 +61,8 @@ impl Session {
         limits: &Limits,
         host: &H,
     ) -> Result<Session, OpenError>
-        ensures { MatchResult result (IsOpened verified (H.formulas host.now) limits.now) (IsRefused (setting verified (H.formulas host.now)) limits.now) }
+        ensures { MatchResult result (IsOpened verified (H.formulas host.now) limits.now)
+            (IsOpeningRefused (setting verified (H.formulas host.now)) limits.now) }
     {
         let machine = Machine::open(alloc, verified, limits, host)?;
         Ok(Session { machine })
@@ -75,7 +76,8 @@ impl Session {
         ensures ends { self.old.ended ≡ None →
             RunsAs (meaning_of self.old (H.formulas host.now) fuel) (K.written out.old) (K.written out.new) result }
         ensures cause { self.old.ended ≡ None → HasRun (K.faults out.old) (K.faults out.new) result }
-        ensures leaves { self.old.ended ≡ None → LeavesRun self.old self.new (H.formulas host.now) fuel result }
+        ensures leaves { self.old.ended ≡ None
+            → LeavesRun self.old self.new (H.formulas host.now) fuel result }
         ensures again { AnswersAgain self.old self.new out.old out.new result }
         ensures keeps { HasEnded self.old self.new result }
     {
@@ -85,8 +87,10 @@ impl Session {
     /// The method that the file exports under a name: that of the first method trait of its last script with this text and the
     /// public namespace, and `None` exactly where there is none.
     pub fn export(&self, name: &[u8]) -> Option<u32>
-        ensures export { (formulas : List Formula) → result ≡ export_of (setting self.now.linked formulas) name.now }
-        ensures method { (formulas : List Formula) → IfSome result (IsScriptMethod (setting self.now.linked formulas)) }
+        ensures export { (formulas : List Formula)
+            → result ≡ export_of (setting self.now.linked formulas) name.now }
+        ensures method { (formulas : List Formula)
+            → IfSome result (IsScriptMethod (setting self.now.linked formulas)) }
     {
         export(self.machine.linked(), name)
     }
@@ -103,9 +107,11 @@ impl Session {
         out: &mut K,
         host: &H,
     ) -> SessionReply
-        requires names { IsReady self.old → formula_names (H.formulas host.now) ≡ self.old.names }
-        requires method { IsReady self.old → IsScriptMethod (setting self.old.linked (H.formulas host.now)) method }
-        ensures answers { AnswersIn self.old self.new (call_of method args.now fuel (H.formulas host.now)) (K.written out.old) (K.written out.new) result }
+        requires names { IsReadyToCall self.old → formula_names (H.formulas host.now) ≡ self.old.names }
+        requires method { IsReadyToCall self.old
+            → IsScriptMethod (setting self.old.linked (H.formulas host.now)) method }
+        ensures answers { AnswersIn self.old self.new (call_of method args.now fuel (H.formulas host.now))
+            (K.written out.old) (K.written out.new) result }
         ensures cause { HasCalled (K.faults out.old) (K.faults out.new) result }
         ensures sink { LeavesSink out.old out.new result }
         ensures text { (s : Span) → result ≡ SessionReply.Reply (Value (Text s)) → CanTell self.new s }

@@ -1,16 +1,16 @@
 ghost use Rattle.std.specs.Prelude.{◌≡◌, ◌++◌, ◌∷◌, [], IfErr, pos};
 ghost use Rattle.std.specs.Fmt.{signed_decimal};
 ghost use Rattle.abc_base.specs.Faults.{HasCause};
-ghost use Rattle.abc_base.specs.Hosts.{arguments};
+ghost use Rattle.abc_base.specs.Hosts.{plain_arguments};
 ghost use Rattle.abc_base.specs.Sinks.{WritesAll};
 ghost use Rattle.abc_meaning.specs.Calls.{answers_call};
 ghost use Rattle.abc_meaning.specs.Exports.{IsScriptMethod};
 ghost use Rattle.abc_objects.specs.Opening.{formula_names};
 ghost use Rattle.abc_machine.specs.Ended.{HasRun, RunsAs};
-ghost use Rattle.abc_machine.specs.Machines.{IsOpened, IsReady};
+ghost use Rattle.abc_machine.specs.Machines.{IsOpened, IsReadyToCall};
 ghost use Rattle.abc_meaning.specs.Openings.{setting};
 ghost use Rattle.abc_session.specs.Ticks.{calls_meaning, tick, ticks_run, value_line};
-ghost use Rattle.abc_session.specs.Told.{GoesOnAs, HasText, TellsAs, Tried, value_or_end as value_of_reply};
+ghost use Rattle.abc_session.specs.Told.{GoesOnToCall, HasToldText, TellsAs, Tried, value_or_end as value_of_reply};
 
 use crate::replies::SessionReply;
 use crate::session::Session;
@@ -20,7 +20,7 @@ use itoa::Buffer;
 
 /// One number, as an exported function takes it.
 fn one_number(number: u32) -> Plain
-    ensures { arguments result ≡ pos number ∷ [] }
+    ensures { plain_arguments result ≡ pos number ∷ [] }
 {
     Plain {
         count: 1,
@@ -69,7 +69,8 @@ fn write_text<K: Sink>(out: &mut K, text: &[u8]) -> Result<(), Failed>
 
 /// Writes a number and a line feed.
 fn write_number<K: Sink>(out: &mut K, number: i64) -> Result<(), Failed>
-    ensures bytes { WritesAll (K.written out.old) (K.written out.new) result (signed_decimal number ++ 10 ∷ []) }
+    ensures bytes { WritesAll (K.written out.old) (K.written out.new) result
+        (signed_decimal number ++ 10 ∷ []) }
     ensures cause { HasCause (K.faults out.old) (K.faults out.new) result }
 {
     let mut buffer = Buffer::new();
@@ -79,8 +80,9 @@ fn write_number<K: Sink>(out: &mut K, number: i64) -> Result<(), Failed>
 /// Writes the line of a value.
 #[tactic(auto, unfolding(crate::specs::Ticks::value_line))]
 fn write_value<K: Sink>(session: &Session, value: PlainValue, out: &mut K) -> Result<(), Failed>
-    requires { HasText session.now value }
-    ensures bytes { WritesAll (K.written out.old) (K.written out.new) result (value_line (session.now).linked.file (session.now).world.heap value) }
+    requires { HasToldText session.now value }
+    ensures bytes { WritesAll (K.written out.old) (K.written out.new) result
+        (value_line (session.now).linked.file (session.now).world.heap value) }
     ensures cause { HasCause (K.faults out.old) (K.faults out.new) result }
 {
     match value {
@@ -96,8 +98,9 @@ fn write_value<K: Sink>(session: &Session, value: PlainValue, out: &mut K) -> Re
 
 /// Writes the line of a value; where that fails, all ends so.
 fn tell<K: Sink>(session: &Session, value: PlainValue, out: &mut K) -> Result<(), End>
-    requires { HasText session.now value }
-    ensures bytes { WritesAll (K.written out.old) (K.written out.new) result (value_line (session.now).linked.file (session.now).world.heap value) }
+    requires { HasToldText session.now value }
+    ensures bytes { WritesAll (K.written out.old) (K.written out.new) result
+        (value_line (session.now).linked.file (session.now).world.heap value) }
     ensures cause { HasCause (K.faults out.old) (K.faults out.new) result }
     ensures fault { IfErr result (λ end. end ≡ End.WriteFault) }
 {
@@ -116,11 +119,15 @@ fn call_once<K: Sink, H: Host>(
     out: &mut K,
     host: &H,
 ) -> Result<(), End>
-    requires ready { IsReady session.old }
+    requires ready { IsReadyToCall session.old }
     requires names { formula_names (H.formulas host.now) ≡ session.old.names }
     requires method { IsScriptMethod (setting session.old.linked (H.formulas host.now)) method }
-    ensures tells { TellsAs session.old.linked.file (answers_call session.old.linked session.old.world (tick method fuel (H.formulas host.now) number)) (K.written out.old) (K.written out.new) result }
-    ensures goes_on { GoesOnAs session.old session.new (answers_call session.old.linked session.old.world (tick method fuel (H.formulas host.now) number)) result }
+    ensures tells { TellsAs session.old.linked.file
+        (answers_call session.old.linked session.old.world (tick method fuel (H.formulas host.now) number))
+        (K.written out.old) (K.written out.new) result }
+    ensures goes_on { GoesOnToCall session.old session.new
+        (answers_call session.old.linked session.old.world (tick method fuel (H.formulas host.now) number))
+        result }
     ensures linked { session.new.linked ≡ session.old.linked }
     ensures cause { Tried (K.faults out.old) (K.faults out.new) result }
 {
@@ -141,10 +148,12 @@ fn call_each<K: Sink, H: Host>(
     out: &mut K,
     host: &H,
 ) -> End
-    requires ready { IsReady session.old }
+    requires ready { IsReadyToCall session.old }
     requires names { formula_names (H.formulas host.now) ≡ session.old.names }
     requires method { IsScriptMethod (setting session.old.linked (H.formulas host.now)) method }
-    ensures runs { RunsAs (ticks_run (setting session.old.linked (H.formulas host.now)) method fuel times session.old.world) (K.written out.old) (K.written out.new) result }
+    ensures runs { RunsAs
+        (ticks_run (setting session.old.linked (H.formulas host.now)) method fuel times session.old.world)
+        (K.written out.old) (K.written out.new) result }
     ensures cause { HasRun (K.faults out.old) (K.faults out.new) result }
     ensures linked { session.new.linked ≡ session.old.linked }
 {
@@ -169,7 +178,8 @@ pub fn run_and_call<K: Sink, H: Host>(
 ) -> End
     requires opened { IsOpened session.old.linked (H.formulas host.now) session.old.limits session.old }
     requires method { IsScriptMethod (setting session.old.linked (H.formulas host.now)) method }
-    ensures runs { RunsAs (calls_meaning (setting session.old.linked (H.formulas host.now)) session.old.limits fuel times method) (K.written out.old) (K.written out.new) result }
+    ensures runs { RunsAs (calls_meaning (setting session.old.linked (H.formulas host.now)) session.old.limits
+        fuel times method) (K.written out.old) (K.written out.new) result }
     ensures cause { HasRun (K.faults out.old) (K.faults out.new) result }
     ensures linked { session.new.linked ≡ session.old.linked }
 {

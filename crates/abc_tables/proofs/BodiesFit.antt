@@ -15,7 +15,7 @@ use Rattle.abc_file_types.specs.declared.code.Handler.{Handler}
 use Rattle.abc_file_types.specs.declared.instructions.Code.{Code}
 use Rattle.abc_file_types.specs.declared.tables.Abc.{Abc}
 use Rattle.abc_file_types.specs.declared.tables.Sizes.{Sizes}
-use Rattle.abc_file_types.specs.Bodies.{IsReadyBody, IsWithin, bodies, bodies_alone, body, body_list, body_method, body_with, handler, methods_of}
+use Rattle.abc_file_types.specs.Bodies.{IsReadyBody, IsHandlerWithin, bodies, bodies_alone, body, body_list, body_method, body_with, handler, methods_of}
 use Rattle.abc_file_types.specs.Classes.{sizes_of}
 use Rattle.abc_file_types.specs.CodeBytes.{canonical_starts, code_bytes}
 use Rattle.abc_file_types.specs.Places.{instruction_place}
@@ -24,7 +24,7 @@ use Rattle.abc_file_types.proofs.BodiesReady.{code_count, handler_within}
 use Rattle.abc_file_types.proofs.BodiesShortest.{canonical_rising, code_again, code_ready, place_spelled}
 use Rattle.abc_file_types.proofs.Lengths.{canonical_count, canonical_small}
 use Rattle.abc_tables.specs.Distinct.{Differ}
-use Rattle.abc_tables.specs.Fitting.{FitBodies, FitTraits, FitsBody, HasNames, HasSizes, IsNumber, IsPoolIndex, IsPosition, Spelled}
+use Rattle.abc_tables.specs.Fitting.{FitBodies, FitTraits, FitsBody, HasNames, HasSizes, FitsNumber, IsPoolIndex, IsPosition, Spelled}
 use Rattle.abc_tables.proofs.Combined.{counted_spelled, number_fits, position_fits}
 use Rattle.abc_tables.proofs.Chains.{Follow, chain_spelled, chained, pairs_before, pairs_map}
 
@@ -42,7 +42,7 @@ names_in v starts h s =
     let t = s.is.1.4.4.4 in
     subst (HasNames v) (sym s.is.2) (record { exc_type = record { bytes = t.0; is = t.3 }; var_name = record { bytes = t.1; is = t.4 } })
 
-handler_from : (v : Sizes) (is : List _) (h : Handler) → IsReady is → IsWithin (length is) h → HasNames v h → Spelled (handler v (canonical_starts is)) h
+handler_from : (v : Sizes) (is : List _) (h : Handler) → IsReady is → IsHandlerWithin (length is) h → HasNames v h → Spelled (handler v (canonical_starts is)) h
 unfolding IsPoolIndex handler
 handler_from v is h r within names =
     let from = place_from is h.from r within.from in
@@ -66,7 +66,7 @@ pub record FitsRest (v : Sizes) (b : Body) : Type 0 where
   pub traits : FitTraits v b.traits
 
 rest_in : (v : Sizes) (q : Part ℕ) (y : Body × List ℕ) → Spelled (body_with v q) y → Spelled q y.0.method × FitsRest v y.0
-unfolding FitTraits IsNumber body_with
+unfolding FitTraits FitsNumber body_with
 rest_in v q y s =
     let x = s.is.0 in
     let method = s.is.1 in
@@ -78,7 +78,7 @@ rest_in v q y s =
     let caught = instrs.4 in
     let c = x.1.1.1.1.1.0 in
     let listed = (counted_spelled (handler v c.offsets) x.1.1.1.1.1.1.0).0 (record { bytes = caught.0; is = caught.3 }) in
-    let within : All (IsWithin (length c.instrs)) x.1.1.1.1.1.1.0 = λ k d lt. let h = listed.1 k d lt in handler_within v c.offsets (length c.instrs) (code_count c instrs.0 instrs.3) _ h.bytes h.is in
+    let within : All (IsHandlerWithin (length c.instrs)) x.1.1.1.1.1.1.0 = λ k d lt. let h = listed.1 k d lt in handler_within v c.offsets (length c.instrs) (code_count c instrs.0 instrs.3) _ h.bytes h.is in
     let rest : Spelled q x.0 × FitsRest v _ = (
       record { bytes = method.0; is = method.3 },
       record {
@@ -97,7 +97,7 @@ rest_in v q y s =
     subst (λ (z : Body × List ℕ). Spelled q z.0.method × FitsRest v z.0) (sym s.is.2) rest
 
 rest_from : (v : Sizes) (q : Part ℕ) (b : Body) → Spelled q b.method → FitsRest v b → Spelled (body_with v q) (b, canonical_starts b.code)
-unfolding FitTraits IsNumber body_with
+unfolding FitTraits FitsNumber body_with
 rest_from v q b m r =
     let z = r.sizes in
     let starts = canonical_starts b.code in
@@ -222,7 +222,7 @@ abbrev BodiesFit : Sizes → List Body → Type 0
 BodiesFit v bs = (length bs < 2 ^ 30) × All (FitsBody v) bs × AllPairs Differ bs
 
 list_in : (v : Sizes) (xs : List Read) → Spelled (body_list v) xs → BodiesFit v (map (λ x. x.0) xs)
-unfolding IsNumber body_list
+unfolding FitsNumber body_list
 list_in v xs s =
     let x = s.is.0 in
     let t = s.is.1 in
@@ -234,7 +234,7 @@ list_in v xs s =
     subst (λ (l : List Read). BodiesFit v (map (λ (y : Read). y.0) l)) (sym is) fits
 
 list_from : (v : Sizes) (bs : List Body) → BodiesFit v bs → Spelled (body_list v) (map anew bs)
-unfolding IsNumber body_list
+unfolding FitsNumber body_list
 list_from v bs h =
     let len : length (map anew bs) ≡ length bs = length-map bs anew in
     let count = (number_fits (length (map anew bs))).1 (omega (arith, h.0, len)) in

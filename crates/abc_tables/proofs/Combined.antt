@@ -9,18 +9,18 @@ use Rattle.std.proofs.lemmas.List.Elements.{All-cons, All-head, All-nil, All-sam
 use Rattle.abc_base.specs.Numbers.{number_bytes}
 use Rattle.abc_base.proofs.Spelling.{number_fits as spells}
 use Rattle.abc_file_types.specs.declared.reason.Reason.{Reason}
-use Rattle.abc_file_types.specs.Lists.{counted, pool, pool_by, text, times}
+use Rattle.abc_file_types.specs.Lists.{count_and_items, pool, pool_by, bytes_with_count, times}
 use Rattle.abc_file_types.specs.Numbers.{entry_index, index_below, pool_index, s32, u30, u32, u8}
-use Rattle.abc_file_types.specs.Part.{Part, both, checked, done, image, then_by, when}
+use Rattle.abc_file_types.specs.Part.{Part, both, with_test, known_value, image, then_by, when}
 use Rattle.abc_file_types.proofs.Canon.{times_length}
-use Rattle.abc_tables.specs.Fitting.{FitsText, IsEntryIndex, IsNumber, IsPoolIndex, IsPosition, Spelled}
+use Rattle.abc_tables.specs.Fitting.{FitsText, IsEntryIndex, FitsNumber, IsPoolIndex, IsPosition, Spelled}
 
 -- ---- one after the other
 
-pub done_is : {A : Type 0} (x y : A) → Spelled (done x) y → y ≡ x
+pub done_is : {A : Type 0} (x y : A) → Spelled (known_value x) y → y ≡ x
 done_is x y s = s.is.0
 
-pub done_spelled : {A : Type 0} (x y : A) → y ≡ x → Spelled (done x) y
+pub done_spelled : {A : Type 0} (x y : A) → y ≡ x → Spelled (known_value x) y
 done_spelled x y e = record { bytes = []; is = (e, refl) }
 
 pub then_parts : {A B : Type 0} (p : Part A) (f : A → Part B) (x : A × B) → Spelled (then_by p f) x → Spelled p x.0 × Spelled (f x.0) x.1
@@ -41,10 +41,10 @@ image_comes f p y s = record { from = s.is.0; spelled = record { bytes = s.bytes
 pub image_spelled : {A B : Type 0} (f : A → B) (p : Part A) (x : A) (y : B) → y ≡ f x → Spelled p x → Spelled (image f p) y
 image_spelled f p x y e s = record { bytes = s.bytes; is = (x, s.is, e) }
 
-pub checked_parts : {A : Type 0} (test : A → Bool) (reason : Reason) (p : Part A) (x : A) → Spelled (checked test reason p) x → Spelled p x × (test x ≡ true)
+pub checked_parts : {A : Type 0} (test : A → Bool) (reason : Reason) (p : Part A) (x : A) → Spelled (with_test test reason p) x → Spelled p x × (test x ≡ true)
 checked_parts test reason p x s = (record { bytes = s.bytes; is = s.is.0 }, s.is.1)
 
-pub checked_spelled : {A : Type 0} (test : A → Bool) (reason : Reason) (p : Part A) (x : A) → Spelled p x → test x ≡ true → Spelled (checked test reason p) x
+pub checked_spelled : {A : Type 0} (test : A → Bool) (reason : Reason) (p : Part A) (x : A) → Spelled p x → test x ≡ true → Spelled (with_test test reason p) x
 checked_spelled test reason p x s e = record { bytes = s.bytes; is = (s.is, e) }
 
 -- ---- where a flag asks for it
@@ -65,8 +65,8 @@ pub byte_spelled : (x : ℕ) → Spelled u8 x
 unfolding u8
 byte_spelled x = record { bytes = x ∷ []; is = refl }
 
-pub number_fits : (x : ℕ) → IsNumber x ↔ (x < 2 ^ 30)
-unfolding IsNumber u30
+pub number_fits : (x : ℕ) → FitsNumber x ↔ (x < 2 ^ 30)
+unfolding FitsNumber u30
 number_fits x = (λ s. ltb-true x (2 ^ 30) s.is.1, λ lt. record { bytes = number_bytes x; is = (spells x (omega arith), lt-ltb x (2 ^ 30) lt) })
 
 pub u32_spelled : (x : ℕ) → x < 2 ^ 32 → Spelled u32 x
@@ -82,7 +82,7 @@ s32_spelled z fits =
     record { bytes = number_bytes n; is = (n, spells n (omega arith), sym (ap (cast_signed w32) small ∙ to_z-of_z w32 z fits)) }
 
 pub position_fits : (n x : ℕ) → IsPosition n x ↔ ((x < n) × (x < 2 ^ 30))
-unfolding IsPosition IsNumber index_below
+unfolding IsPosition FitsNumber index_below
 position_fits n x = (
   λ s. (ltb-true x n s.is.1, (number_fits x).0 (record { bytes = s.bytes; is = s.is.0 })),
   λ h. checked_spelled _ _ u30 x ((number_fits x).1 h.1) (lt-ltb x n h.0),
@@ -95,14 +95,14 @@ of_entry : (n x : ℕ) → (nat_le 1 x && nat_le x n ≡ true) ↔ ((1 ≤ x) ×
 of_entry n x = (λ e. grind (arith, nat_tests), λ le. grind (arith, nat_tests))
 
 pub pool_index_fits : (n x : ℕ) → IsPoolIndex n x ↔ ((x ≤ n) × (x < 2 ^ 30))
-unfolding IsPoolIndex IsNumber pool_index
+unfolding IsPoolIndex FitsNumber pool_index
 pool_index_fits n x = (
   λ s. ((in_pool n x).0 s.is.1, (number_fits x).0 (record { bytes = s.bytes; is = s.is.0 })),
   λ h. checked_spelled _ _ u30 x ((number_fits x).1 h.1) ((in_pool n x).1 h.0),
 )
 
 pub entry_index_fits : (n x : ℕ) → IsEntryIndex n x ↔ ((1 ≤ x) × (x ≤ n) × (x < 2 ^ 30))
-unfolding IsEntryIndex IsNumber entry_index
+unfolding IsEntryIndex FitsNumber entry_index
 entry_index_fits n x = (
   λ s. let b = (of_entry n x).0 s.is.1 in (b.0, b.1, (number_fits x).0 (record { bytes = s.bytes; is = s.is.0 })),
   λ h. checked_spelled _ _ u30 x ((number_fits x).1 h.2) ((of_entry n x).1 (h.0, h.1)),
@@ -141,15 +141,15 @@ listed_spelled {A = A} q p xs = (
       (then_spelled q (λ n. times n p) (length xs, xs) h.0 (each_times p xs h.1)),
 )
 
-pub counted_spelled : {A : Type 0} (p : Part A) (xs : List A) → Spelled (counted p) xs ↔ ((length xs < 2 ^ 30) × All (Spelled p) xs)
-unfolding IsNumber counted
+pub counted_spelled : {A : Type 0} (p : Part A) (xs : List A) → Spelled (count_and_items p) xs ↔ ((length xs < 2 ^ 30) × All (Spelled p) xs)
+unfolding FitsNumber count_and_items
 counted_spelled p xs =
     let listed = listed_spelled u30 p xs in
     let count = number_fits (length xs) in
     (λ s. let h = listed.0 s in (count.0 h.0, h.1), λ h. listed.1 (count.1 h.0, h.1))
 
 pub pool_by_spelled : {A : Type 0} (p : ℕ → Part A) (xs : List A) → Spelled (pool_by p) xs ↔ ((length xs + 1 < 2 ^ 30) × All (Spelled (p (length xs))) xs)
-unfolding IsNumber pool_by
+unfolding FitsNumber pool_by
 pool_by_spelled {A = A} p xs = (
   λ s.
       let c = image_comes (λ (x : ℕ × List A). x.1) (then_by u30 (λ n. times (n - 1) (p (n - 1)))) xs s in
@@ -173,5 +173,5 @@ pub every_byte : (b : List ℕ) → All (Spelled u8) b
 every_byte b = λ k d lt. byte_spelled (get_or b k d)
 
 pub text_fits : (b : List ℕ) → FitsText b ↔ (length b < 2 ^ 30)
-unfolding FitsText text
+unfolding FitsText bytes_with_count
 text_fits b = let c = counted_spelled u8 b in (λ s. (c.0 s).0, λ lt. c.1 (lt, every_byte b))

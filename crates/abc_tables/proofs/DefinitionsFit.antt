@@ -7,7 +7,7 @@ use Rattle.abc_file_types.specs.declared.tables.Abc.{Abc}
 use Rattle.abc_file_types.specs.declared.tables.Sizes.{Sizes}
 use Rattle.abc_file_types.specs.Classes.{class_info, definitions, instance, script, sizes_of, sizes_with}
 use Rattle.abc_file_types.specs.Methods.{metadata, method, option_value, options}
-use Rattle.abc_tables.specs.Fitting.{AreClasses, FitDefinitions, FitsClass, FitsInstance, FitsMetadata, FitsMethod, FitsScript, IsNumber, Spelled, pools_alone, without_bodies}
+use Rattle.abc_tables.specs.Fitting.{AreClasses, FitDefinitions, FitsClass, FitsInstance, FitsMetadata, FitsMethod, FitsScript, FitsNumber, Spelled, pools_alone, without_bodies}
 use Rattle.abc_tables.proofs.Combined.{counted_spelled, number_fits, times_spelled}
 
 -- a method and its metadata point into pools alone
@@ -41,7 +41,7 @@ pub record AreDefinitions (v : Abc) : Type 0 where
   pub scripts : All (FitsScript (sizes_of v)) v.scripts
 
 definitions_in : (abc v : Abc) → Spelled (definitions abc) v → AreDefinitions v
-unfolding FitsClass FitsInstance FitsMetadata FitsMethod FitsScript IsNumber definitions
+unfolding FitsClass FitsInstance FitsMetadata FitsMethod FitsScript FitsNumber definitions
 definitions_in abc v s =
     let x = s.is.0 in
     let methods = s.is.1 in
@@ -72,7 +72,7 @@ definitions_in abc v s =
     })
 
 definitions_from : (v : Abc) → AreDefinitions v → Spelled (definitions (pools_alone v)) (without_bodies v)
-unfolding FitsClass FitsInstance FitsMetadata FitsMethod FitsScript IsNumber definitions
+unfolding FitsClass FitsInstance FitsMetadata FitsMethod FitsScript FitsNumber definitions
 definitions_from v d =
     let z = sizes_with v 0 0 0 in
     let w = sizes_of v in

@@ -8,7 +8,7 @@ use Rattle.abc_file_types.specs.Bodies.{bodies, bodies_alone}
 use Rattle.abc_file_types.specs.Classes.{definitions, sizes_of}
 use Rattle.abc_file_types.specs.Files.{Fits, file, file_bytes, version}
 use Rattle.abc_file_types.specs.Pools.{pools}
-use Rattle.abc_file_types.specs.Sizes.{capped}
+use Rattle.abc_file_types.specs.Sizes.{capped_sizes}
 use Rattle.abc_file_types.proofs.Whole.{file-canonical}
 use Rattle.abc_tables.specs.Fitting.{AreFew, FitBodies, FitDefinitions, FitPools, FitsTables, Spelled, pools_alone, without_bodies}
 use Rattle.abc_tables.specs.Lengths.{body_len, definitions_len, file_len, pools_len}
@@ -97,7 +97,7 @@ tables_few v s =
     }
 
 -- sizes below 2^30 are told as they are
-pub few_told : (v : Abc) → AreFew v → capped (sizes_of v) ≡ sizes_of v
+pub few_told : (v : Abc) → AreFew v → capped_sizes (sizes_of v) ≡ sizes_of v
 few_told v few =
     let told : (n : ℕ) → n < 2 ^ 30 → min n (2 ^ 30) ≡ n = λ n lt. omega arith in
     rw (

@@ -5,7 +5,7 @@ use Rattle.std.proofs.lemmas.Bool.Decides.{nat_tests}
 use Rattle.abc_file_types.specs.declared.reason.Reason.TheVariants as reasons
 use Rattle.abc_file_types.specs.Lists.{times}
 use Rattle.abc_file_types.specs.Numbers.{pool_index, u30, u8}
-use Rattle.abc_file_types.specs.Part.{both, checked, then_by, when}
+use Rattle.abc_file_types.specs.Part.{both, with_test, then_by, when}
 use Rattle.abc_file_types.specs.declared.methods.Metadata.{Metadata}
 use Rattle.abc_file_types.specs.declared.methods.Method.{Method}
 use Rattle.abc_file_types.specs.declared.methods.OptionValue.{OptionValue}
@@ -14,15 +14,15 @@ use Rattle.abc_file_types.specs.declared.methods.ValueKind.TheVariants as kinds
 use Rattle.abc_file_types.specs.declared.tables.Sizes.{Sizes}
 use Rattle.abc_file_types.specs.Methods.{has_flag, has_value, is_value_kind, metadata, method, option_value, options, value_code, value_kind, value_kind_of}
 use Rattle.abc_file_types.specs.Traits.{slot_value, slot_value_of}
-use Rattle.abc_tables.specs.Fitting.{FitOptions, FitParamNames, FitsMetadata, FitsMethod, FitsOption, FitsSlotValue, IsNumber, IsPoolIndex, Spelled}
+use Rattle.abc_tables.specs.Fitting.{FitOptions, FitParamNames, FitsMetadata, FitsMethod, FitsOption, FitsSlotValue, FitsNumber, IsPoolIndex, Spelled}
 use Rattle.abc_tables.proofs.Combined.{asked, byte_spelled, checked_parts, checked_spelled, image_spelled, listed_spelled, number_fits, then_spelled, times_spelled, unasked}
 
-spelled_number : (x : ℕ) → Spelled u30 x → IsNumber x
-unfolding IsNumber
+spelled_number : (x : ℕ) → Spelled u30 x → FitsNumber x
+unfolding FitsNumber
 spelled_number x s = s
 
-number_spelled : (x : ℕ) → IsNumber x → Spelled u30 x
-unfolding IsNumber
+number_spelled : (x : ℕ) → FitsNumber x → Spelled u30 x
+unfolding FitsNumber
 number_spelled x s = s
 
 -- ---- values
@@ -55,8 +55,8 @@ value_kind_spelled k =
     let is = known k in
     image_spelled value_kind_of _ (value_code k) k is.again (checked_spelled _ _ u8 (value_code k) (byte_spelled (value_code k)) is.accepted)
 
-pub option_fits : (v : Sizes) (o : OptionValue) → FitsOption v o ↔ (IsNumber o.value × (has_value v o.value o.kind ≡ true))
-unfolding FitsOption IsNumber option_value
+pub option_fits : (v : Sizes) (o : OptionValue) → FitsOption v o ↔ (FitsNumber o.value × (has_value v o.value o.kind ≡ true))
+unfolding FitsOption FitsNumber option_value
 option_fits v o = (
   λ s.
       let x = s.is.0 in
@@ -71,7 +71,7 @@ option_fits v o = (
 -- ---- slots
 
 zero_spelled : Spelled u30 0
-unfolding IsNumber
+unfolding FitsNumber
 zero_spelled = (number_fits 0).1 (omega arith)
 
 pub no_value_fits : (v : Sizes) → FitsSlotValue v None
@@ -126,7 +126,7 @@ few c params = (λ e. grind (arith, nat_tests), λ le. grind (arith, nat_tests))
 options_are : (v : Sizes) (params : ℕ) (os : List OptionValue) → Spelled (options v params) os ↔ ((length os ≤ params) × (length os < 2 ^ 30) × All (FitsOption v) os)
 unfolding options FitsOption
 options_are v params os =
-    let listed = listed_spelled (checked (λ c. nat_le c params) reasons.OptionCount u30) (option_value v) os in (
+    let listed = listed_spelled (with_test (λ c. nat_le c params) reasons.OptionCount u30) (option_value v) os in (
       λ s.
           let h = listed.0 s in
           let count = checked_parts (λ c. nat_le c params) reasons.OptionCount u30 (length os) h.0 in
@@ -154,8 +154,8 @@ options_unasked v m e =
     let o = no_items m.options in
     (λ s. o.0 (a.0 s), λ h. a.1 (o.1 h))
 
-pub names_asked : (m : Method) → has_flag m.flags 0x80 ≡ true → FitParamNames m ↔ ((length m.param_names ≡ length m.params) × All IsNumber m.param_names)
-unfolding FitParamNames IsNumber
+pub names_asked : (m : Method) → has_flag m.flags 0x80 ≡ true → FitParamNames m ↔ ((length m.param_names ≡ length m.params) × All FitsNumber m.param_names)
+unfolding FitParamNames FitsNumber
 names_asked m e =
     let a = asked (has_flag m.flags 0x80) [] m.param_names (times (length m.params) u30) e in
     let t = times_spelled (length m.params) u30 m.param_names in
@@ -174,7 +174,7 @@ abbrev pub MethodFits : Sizes → Method → Type 0
 MethodFits v m = (length m.params < 2 ^ 30) × IsPoolIndex v.names m.ret × All (IsPoolIndex v.names) m.params × IsPoolIndex v.strings m.name × FitOptions v m × FitParamNames m
 
 pub method_fits : (v : Sizes) (m : Method) → FitsMethod v m ↔ MethodFits v m
-unfolding FitsMethod FitOptions FitParamNames IsPoolIndex IsNumber method u8
+unfolding FitsMethod FitOptions FitParamNames IsPoolIndex FitsNumber method u8
 method_fits v m = (
   λ s.
       let x = s.is.0 in
@@ -216,7 +216,7 @@ abbrev pub MetadataFits : Sizes → Metadata → Type 0
 MetadataFits v m = IsPoolIndex v.strings m.name × (length m.items % 2 ≡ 0) × (length m.items / 2 < 2 ^ 30) × All (IsPoolIndex v.strings) m.items
 
 pub metadata_fits : (v : Sizes) (m : Metadata) → FitsMetadata v m ↔ MetadataFits v m
-unfolding FitsMetadata IsPoolIndex IsNumber metadata
+unfolding FitsMetadata IsPoolIndex FitsNumber metadata
 metadata_fits v m = (
   λ s.
       let x = s.is.0 in

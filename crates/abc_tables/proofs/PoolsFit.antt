@@ -3,7 +3,7 @@ use Rattle.std.proofs.Common.{◌≡◌, ℕ, ℤ, ◌+◌, ◌^◌, ◌<◌, tr
 use Rattle.std.specs.Prelude.{◌↔◌, All, FitsSigned}
 use Rattle.std.specs.Int.{w32}
 use Rattle.std.proofs.lemmas.List.{get_or_default}
-use Rattle.abc_file_types.specs.Lists.{counted, pool, text, times}
+use Rattle.abc_file_types.specs.Lists.{count_and_items, pool, bytes_with_count, times}
 use Rattle.abc_file_types.specs.Numbers.{entry_index, pool_index, s32, u32, u8}
 use Rattle.abc_file_types.specs.Part.{Part, both, then_by}
 use Rattle.abc_file_types.specs.declared.names.NsKind.{NsKind}
@@ -127,8 +127,8 @@ module _ (strings spaces sets all : ℕ) where
       subst HasFields (sym c.is) (then_parts (pool_index strings) (λ _. entry_index sets) c.from c.spelled)
   fields_in (kinds.MultiL attr) m s = let c = image_comes (λ x. names.MultiL attr x) (entry_index sets) m s in subst HasFields (sym c.is) c.spelled
   fields_in kinds.TypeName m s =
-      let c = image_comes (λ (x : ℕ × List ℕ). names.TypeName x.0 x.1) (both (entry_index all) (counted (pool_index all))) m s in
-      let t = then_parts (entry_index all) (λ _. counted (pool_index all)) c.from c.spelled in
+      let c = image_comes (λ (x : ℕ × List ℕ). names.TypeName x.0 x.1) (both (entry_index all) (count_and_items (pool_index all))) m s in
+      let t = then_parts (entry_index all) (λ _. count_and_items (pool_index all)) c.from c.spelled in
       let params = (counted_spelled (pool_index all) c.from.1).0 t.1 in
       subst HasFields (sym c.is) (t.0, params.0, params.1)
 
@@ -150,7 +150,7 @@ module _ (strings spaces sets all : ℕ) where
   with_fields (names.TypeName base params) h =
       of_kind kinds.TypeName (names.TypeName base params)
       (image_spelled _ _ (base, params) (names.TypeName base params) refl
-      (then_spelled (entry_index all) (λ _. counted (pool_index all)) (base, params) h.0 ((counted_spelled (pool_index all) params).1 (h.1, h.2))))
+      (then_spelled (entry_index all) (λ _. count_and_items (pool_index all)) (base, params) h.0 ((counted_spelled (pool_index all) params).1 (h.1, h.2))))
 
   multiname_spelled : (m : Multiname) → Spelled (multiname strings spaces sets all) m ↔ HasFields m
   unfolding multiname
@@ -188,7 +188,7 @@ doubles_fit xs = pool_spelled double xs
 
 pub texts_fit : (xs : List (List ℕ)) → FitTexts xs ↔ ((length xs + 1 < 2 ^ 30) × All FitsText xs)
 unfolding FitTexts FitsText
-texts_fit xs = pool_spelled text xs
+texts_fit xs = pool_spelled bytes_with_count xs
 
 pub namespaces_fit : (strings : ℕ) (xs : List Namespace) → FitNamespaces strings xs ↔ ((length xs + 1 < 2 ^ 30) × All (FitsNamespace strings) xs)
 unfolding FitNamespaces FitsNamespace
@@ -226,7 +226,7 @@ abbrev after_strings : List (List ℕ) → Part (List Namespace × (List (List �
 after_strings strings = then_by (pool (namespace (length strings))) (after_spaces (length strings))
 
 abbrev from_strings : Part (List (List ℕ) × (List Namespace × (List (List ℕ) × List Multiname)))
-from_strings = then_by (pool text) after_strings
+from_strings = then_by (pool bytes_with_count) after_strings
 
 pools_in : (x : PoolValues) → Spelled (both (pool s32) (both (pool u32) (both (pool double) from_strings))) x → ArePools (with_pools x)
 unfolding FitDoubles FitInts FitMultinames FitNamespaces FitNamespaceSets FitTexts FitUints
@@ -234,7 +234,7 @@ pools_in x s =
     let a = then_parts (pool s32) (λ _. both (pool u32) (both (pool double) from_strings)) x s in
     let b = then_parts (pool u32) (λ _. both (pool double) from_strings) x.1 a.1 in
     let c = then_parts (pool double) (λ _. from_strings) x.1.1 b.1 in
-    let d = then_parts (pool text) after_strings x.1.1.1 c.1 in
+    let d = then_parts (pool bytes_with_count) after_strings x.1.1.1 c.1 in
     let e = then_parts (pool (namespace (length x.1.1.1.0))) (after_spaces (length x.1.1.1.0)) x.1.1.1.1 d.1 in
     let f = then_parts (pool (namespace_set (length x.1.1.1.1.0))) (after_sets (length x.1.1.1.0) (length x.1.1.1.1.0)) x.1.1.1.1.1 e.1 in
     record { ints = a.0; uints = b.0; doubles = c.0; strings = d.0; namespaces = e.0; sets = f.0; names = f.1 }
@@ -245,7 +245,7 @@ pools_from x p =
     then_spelled (pool s32) (λ _. both (pool u32) (both (pool double) from_strings)) x p.ints
     (then_spelled (pool u32) (λ _. both (pool double) from_strings) x.1 p.uints
     (then_spelled (pool double) (λ _. from_strings) x.1.1 p.doubles
-    (then_spelled (pool text) after_strings x.1.1.1 p.strings
+    (then_spelled (pool bytes_with_count) after_strings x.1.1.1 p.strings
     (then_spelled (pool (namespace (length x.1.1.1.0))) (after_spaces (length x.1.1.1.0)) x.1.1.1.1 p.namespaces
     (then_spelled (pool (namespace_set (length x.1.1.1.1.0))) (after_sets (length x.1.1.1.0) (length x.1.1.1.1.0)) x.1.1.1.1.1 p.sets p.names)))))
 

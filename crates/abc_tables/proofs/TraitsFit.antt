@@ -2,7 +2,7 @@
 use Rattle.std.proofs.Common.{◌≡◌, ℕ, ◌%◌, ◌^◌, ◌<◌, Bool, true, false, List, [], ◌++◌, length, refl, sym, ap, subst, arith}
 use Rattle.std.specs.Prelude.{◌↔◌, All, nat_le}
 use Rattle.std.specs.declared.option.Option.{Option}
-use Rattle.abc_file_types.specs.Lists.{counted}
+use Rattle.abc_file_types.specs.Lists.{count_and_items}
 use Rattle.abc_file_types.specs.Numbers.{index_below, pool_index, u30, u8}
 use Rattle.abc_file_types.specs.Part.{both, image}
 use Rattle.abc_file_types.specs.declared.methods.OptionValue.{OptionValue}
@@ -15,7 +15,7 @@ use Rattle.abc_file_types.specs.declared.traits.TraitKind.TheVariants as traits
 use Rattle.abc_file_types.specs.Methods.{has_flag}
 use Rattle.abc_file_types.specs.Traits.{slot_value, trait_fields, trait_info, trait_kind, trait_kind_in}
 use Rattle.abc_file_types.proofs.Shortest.{kind_and_attributes, kind_byte, kind_byte_back, kind_byte_low, trait_code_low}
-use Rattle.abc_tables.specs.Fitting.{FitTraits, FitsSlotValue, FitsTrait, FitsTraitFields, FitsTraitMetadata, IsEntryIndex, IsNumber, IsPoolIndex, IsPosition, Spelled}
+use Rattle.abc_tables.specs.Fitting.{FitTraits, FitsSlotValue, FitsTrait, FitsTraitFields, FitsTraitMetadata, IsEntryIndex, FitsNumber, IsPoolIndex, IsPosition, Spelled}
 use Rattle.abc_tables.proofs.Combined.{asked, byte_spelled, checked_spelled, counted_spelled, image_spelled, then_spelled, unasked}
 use Rattle.abc_tables.proofs.MethodsFit.{no_items}
 
@@ -35,15 +35,15 @@ few_attributes k s = let e = ap (λ (y : TraitKind × ℕ). y.1) s.is.2 in omega
 -- ---- the fields of each kind
 
 abbrev pub HasFields : Sizes → TraitBody → Type 0
-HasFields v (bodies.Slot id ty value constant) = IsNumber id × IsPoolIndex v.names ty × FitsSlotValue v value
-HasFields v (bodies.Method disp method) = IsNumber disp × IsPosition v.methods method
-HasFields v (bodies.Getter disp method) = IsNumber disp × IsPosition v.methods method
-HasFields v (bodies.Setter disp method) = IsNumber disp × IsPosition v.methods method
-HasFields v (bodies.Class id class) = IsNumber id × IsPosition v.classes class
-HasFields v (bodies.Function id method) = IsNumber id × IsPosition v.methods method
+HasFields v (bodies.Slot id ty value constant) = FitsNumber id × IsPoolIndex v.names ty × FitsSlotValue v value
+HasFields v (bodies.Method disp method) = FitsNumber disp × IsPosition v.methods method
+HasFields v (bodies.Getter disp method) = FitsNumber disp × IsPosition v.methods method
+HasFields v (bodies.Setter disp method) = FitsNumber disp × IsPosition v.methods method
+HasFields v (bodies.Class id class) = FitsNumber id × IsPosition v.classes class
+HasFields v (bodies.Function id method) = FitsNumber id × IsPosition v.methods method
 
 slot_in : (v : Sizes) (constant : Bool) (t : TraitBody) → Spelled (image (λ x. bodies.Slot x.0 x.1.0 x.1.1 constant) (both u30 (both (pool_index v.names) (slot_value v)))) t → HasFields v t
-unfolding FitsSlotValue IsNumber IsPoolIndex
+unfolding FitsSlotValue FitsNumber IsPoolIndex
 slot_in v constant t s =
     let p = s.is.1 in
     let q = p.4 in
@@ -51,17 +51,17 @@ slot_in v constant t s =
 
 slot_from : (v : Sizes) (id ty : ℕ) (value : Option OptionValue) (constant : Bool) → HasFields v (bodies.Slot id ty value constant)
     → Spelled (image (λ x. bodies.Slot x.0 x.1.0 x.1.1 constant) (both u30 (both (pool_index v.names) (slot_value v)))) (bodies.Slot id ty value constant)
-unfolding FitsSlotValue IsNumber IsPoolIndex
+unfolding FitsSlotValue FitsNumber IsPoolIndex
 slot_from v id ty value constant h =
     record { bytes = h.0.bytes ++ (h.1.bytes ++ h.2.bytes); is = ((id, (ty, value)), (h.0.bytes, _, refl, h.0.is, (h.1.bytes, h.2.bytes, refl, h.1.is, h.2.is)), refl) }
 
 -- two numbers, the second of which is a position
-pair_in : (f : ℕ × ℕ → TraitBody) (n : ℕ) (P : TraitBody → Type 0) (t : TraitBody) → ((x : ℕ × ℕ) → IsNumber x.0 × IsPosition n x.1 → P (f x)) → Spelled (image f (both u30 (index_below n))) t → P t
-unfolding IsNumber IsPosition
+pair_in : (f : ℕ × ℕ → TraitBody) (n : ℕ) (P : TraitBody → Type 0) (t : TraitBody) → ((x : ℕ × ℕ) → FitsNumber x.0 × IsPosition n x.1 → P (f x)) → Spelled (image f (both u30 (index_below n))) t → P t
+unfolding FitsNumber IsPosition
 pair_in f n P t each s = let p = s.is.1 in subst P (sym s.is.2) (each s.is.0 (record { bytes = p.0; is = p.3 }, record { bytes = p.1; is = p.4 }))
 
-pair_from : (f : ℕ × ℕ → TraitBody) (n x y : ℕ) → IsNumber x × IsPosition n y → Spelled (image f (both u30 (index_below n))) (f (x, y))
-unfolding IsNumber IsPosition
+pair_from : (f : ℕ × ℕ → TraitBody) (n x y : ℕ) → FitsNumber x × IsPosition n y → Spelled (image f (both u30 (index_below n))) (f (x, y))
+unfolding FitsNumber IsPosition
 pair_from f n x y h = image_spelled f (both u30 (index_below n)) (x, y) (f (x, y)) refl (then_spelled u30 (λ _. index_below n) (x, y) h.0 h.1)
 
 fields_in : (v : Sizes) (kind : TraitKind) (t : TraitBody) → Spelled (trait_fields v kind) t → HasFields v t
@@ -91,14 +91,14 @@ fields_fit v t = (fields_in v (trait_kind_in t) t, with_fields v t)
 pub metadata_asked : (v : Sizes) (t : TraitInfo) → has_flag t.attrs 4 ≡ true → FitsTraitMetadata v t ↔ ((length t.metadata < 2 ^ 30) × All (IsPosition v.metadata) t.metadata)
 unfolding FitsTraitMetadata IsPosition
 metadata_asked v t e =
-    let a = asked (has_flag t.attrs 4) [] t.metadata (counted (index_below v.metadata)) e in
+    let a = asked (has_flag t.attrs 4) [] t.metadata (count_and_items (index_below v.metadata)) e in
     let c = counted_spelled (index_below v.metadata) t.metadata in
     (λ s. c.0 (a.0 s), λ h. a.1 (c.1 h))
 
 pub metadata_unasked : (v : Sizes) (t : TraitInfo) → has_flag t.attrs 4 ≡ false → FitsTraitMetadata v t ↔ (length t.metadata ≡ 0)
 unfolding FitsTraitMetadata
 metadata_unasked v t e =
-    let a = unasked (has_flag t.attrs 4) [] t.metadata (counted (index_below v.metadata)) e in
+    let a = unasked (has_flag t.attrs 4) [] t.metadata (count_and_items (index_below v.metadata)) e in
     let o = no_items t.metadata in
     (λ s. o.0 (a.0 s), λ h. a.1 (o.1 h))
 

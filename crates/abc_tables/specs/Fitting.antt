@@ -1,7 +1,7 @@
 -- Which values of each part some bytes spell.
 use Rattle.std.specs.Prelude.{◌≡◌, ◌<◌, ◌^◌, ℕ, ℤ, List, [], All, length, None}
 use Rattle.std.specs.declared.option.Option.{Option}
-use Rattle.abc_file_types.specs.Lists.{counted, pool, text, times}
+use Rattle.abc_file_types.specs.Lists.{count_and_items, pool, bytes_with_count, times}
 use Rattle.abc_file_types.specs.Numbers.{entry_index, index_below, pool_index, s32, u30, u32}
 use Rattle.abc_file_types.specs.Part.{Part, image, when}
 use Rattle.abc_file_types.specs.declared.classes.ClassInfo.{ClassInfo}
@@ -35,8 +35,8 @@ pub record Spelled {A : Type 0} (p : Part A) (x : A) : Type 0 where
 -- ---- numbers
 
 -- Some bytes spell the number, and it is below 2^30.
-unfoldable pub IsNumber : ℕ → Type 0
-IsNumber x = Spelled u30 x
+unfoldable pub FitsNumber : ℕ → Type 0
+FitsNumber x = Spelled u30 x
 
 -- in a table of n entries
 unfoldable pub IsPosition : ℕ → ℕ → Type 0
@@ -68,10 +68,10 @@ unfoldable pub FitDoubles : List Eight → Type 0
 FitDoubles xs = Spelled (pool double) xs
 
 unfoldable pub FitsText : List ℕ → Type 0
-FitsText b = Spelled text b
+FitsText b = Spelled bytes_with_count b
 
 unfoldable pub FitTexts : List (List ℕ) → Type 0
-FitTexts xs = Spelled (pool text) xs
+FitTexts xs = Spelled (pool bytes_with_count) xs
 
 unfoldable pub FitsNamespace : ℕ → Namespace → Type 0
 FitsNamespace strings n = Spelled (namespace strings) n
@@ -128,14 +128,14 @@ FitsTraitFields v t = Spelled (trait_fields v (trait_kind_in t)) t
 
 -- the metadata of a trait, which an attribute asks for
 unfoldable pub FitsTraitMetadata : Sizes → TraitInfo → Type 0
-FitsTraitMetadata v t = Spelled (when (has_flag t.attrs 4) [] (counted (index_below v.metadata))) t.metadata
+FitsTraitMetadata v t = Spelled (when (has_flag t.attrs 4) [] (count_and_items (index_below v.metadata))) t.metadata
 
 unfoldable pub FitsTrait : Sizes → TraitInfo → Type 0
 FitsTrait v t = Spelled (trait_info v) t
 
 -- Some bytes spell these traits, with their count before them.
 unfoldable pub FitTraits : Sizes → List TraitInfo → Type 0
-FitTraits v ts = Spelled (counted (trait_info v)) ts
+FitTraits v ts = Spelled (count_and_items (trait_info v)) ts
 
 -- ---- classes and scripts
 
@@ -173,10 +173,10 @@ FitDefinitions v = Spelled (definitions (pools_alone v)) (without_bodies v)
 
 -- Its numbers are spelled by some bytes.
 pub record HasSizes (b : Body) : Type 0 where
-  pub max_stack : IsNumber b.max_stack
-  pub local_count : IsNumber b.local_count
-  pub init_scope : IsNumber b.init_scope
-  pub max_scope : IsNumber b.max_scope
+  pub max_stack : FitsNumber b.max_stack
+  pub local_count : FitsNumber b.local_count
+  pub init_scope : FitsNumber b.init_scope
+  pub max_scope : FitsNumber b.max_scope
 
 -- Its type and its name are spelled by some bytes.
 pub record HasNames (v : Sizes) (h : Handler) : Type 0 where
@@ -184,7 +184,7 @@ pub record HasNames (v : Sizes) (h : Handler) : Type 0 where
   pub var_name : IsPoolIndex v.names h.var_name
 
 -- Each of its parts beside its code is spelled by some bytes.
-pub record HasParts (v : Sizes) (b : Body) : Type 0 where
+pub record HasBodyParts (v : Sizes) (b : Body) : Type 0 where
   pub method : IsPosition v.methods b.method
   pub sizes : HasSizes b
   pub handler_count : length b.handlers < 2 ^ 30

@@ -21,7 +21,9 @@ impl Measured for OptionValue {
 
 /// The optional values, where a flag says that there are any.
 fn len_of_options(method: &Method) -> u64
-    ensures { result ≡ min (if is_set (method.now).flags 0x08 then counted_len option_len (method.now).options else 0) (2 ^ 64 - 1) }
+    ensures { result
+        ≡ min (if is_set (method.now).flags 0x08 then counted_len option_len (method.now).options else 0)
+        (2 ^ 64 - 1) }
 {
     if has_flag(method.flags, HAS_OPTIONAL) {
         len_of_counted(&method.options)
@@ -32,7 +34,9 @@ fn len_of_options(method: &Method) -> u64
 
 /// The names of the parameters, where a flag says that there are any.
 fn len_of_param_names(method: &Method) -> u64
-    ensures { result ≡ min (if is_set (method.now).flags 0x80 then sum_by number_len (method.now).param_names else 0) (2 ^ 64 - 1) }
+    ensures { result
+        ≡ min (if is_set (method.now).flags 0x80 then sum_by number_len (method.now).param_names else 0)
+        (2 ^ 64 - 1) }
 {
     if has_flag(method.flags, HAS_PARAM_NAMES) {
         len_of_all(&method.param_names)
@@ -93,7 +97,9 @@ fn len_of_trait_fields(body: &TraitBody) -> u64
 
 /// The metadata, where an attribute says that there is any.
 fn len_of_trait_metadata(info: &TraitInfo) -> u64
-    ensures { result ≡ min (if is_set (info.now).attrs 4 then counted_len number_len (info.now).metadata else 0) (2 ^ 64 - 1) }
+    ensures { result
+        ≡ min (if is_set (info.now).attrs 4 then counted_len number_len (info.now).metadata else 0)
+        (2 ^ 64 - 1) }
 {
     if has_flag(info.attrs, HAS_METADATA) {
         len_of_counted(&info.metadata)

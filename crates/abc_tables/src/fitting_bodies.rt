@@ -1,7 +1,7 @@
 ghost use Rattle.std.specs.Prelude.{◌≡◌, ◌↔◌, ◌≤◌, ◌*◌, ◌-◌, ◌^◌, ◌<◌, All, AllPairs, IsTrue, MatchOption, false, length, min};
 ghost use Rattle.std.specs.List.{sum_by};
 ghost use Rattle.abc_tables.specs.Distinct.{Differ, DifferFrom, Rise};
-ghost use Rattle.abc_tables.specs.Fitting.{FitBodies, FitsBody, HasNames, HasParts, HasSizes};
+ghost use Rattle.abc_tables.specs.Fitting.{FitBodies, FitsBody, HasNames, HasBodyParts, HasSizes};
 ghost use Rattle.abc_tables.specs.Lengths.{body_len};
 ghost use Rattle.abc_file_types.specs.Classes.{sizes_of as all_sizes};
 
@@ -38,7 +38,7 @@ fn have_names(handlers: &[Handler], sizes: &Sizes) -> bool
 
 /// Whether some bytes spell the parts of a body beside its code.
 fn has_parts(body: &Body, sizes: &Sizes) -> bool
-    ensures { IsTrue result ↔ HasParts sizes.now body.now }
+    ensures { IsTrue result ↔ HasBodyParts sizes.now body.now }
 {
     is_position(body.method, sizes.methods)
         && has_sizes(body)
@@ -51,7 +51,8 @@ fn has_parts(body: &Body, sizes: &Sizes) -> bool
 /// that is greater.
 #[tactic(auto, using(crate::proofs::BodiesFit::body_fits))]
 fn len_of_body(body: &Body, sizes: &Sizes) -> Option<u64>
-    ensures { MatchOption result (FitsBody sizes.now body.now → ⊥) (λ n. FitsBody sizes.now body.now × (n ≡ min (body_len body.now) (2 ^ 64 - 1))) }
+    ensures { MatchOption result (FitsBody sizes.now body.now → ⊥)
+        (λ n. FitsBody sizes.now body.now × (n ≡ min (body_len body.now) (2 ^ 64 - 1))) }
 {
     if !has_parts(body, sizes) {
         return None;
@@ -79,7 +80,9 @@ fn rises(rise: bool, least: u64, method: u64) -> bool
 
 /// What one walk tells of bodies, if some bytes spell each, whatever the others are.
 pub fn walk(bodies: &[Body], sizes: &Sizes) -> Option<Walked>
-    ensures { MatchOption result (All (FitsBody sizes.now) bodies.now → ⊥) (λ w. All (FitsBody sizes.now) bodies.now × (w.len ≡ min (sum_by body_len bodies.now) (2 ^ 64 - 1)) × (IsTrue w.rise → AllPairs Rise bodies.now)) }
+    ensures { MatchOption result (All (FitsBody sizes.now) bodies.now → ⊥)
+        (λ w. All (FitsBody sizes.now) bodies.now × (w.len ≡ min (sum_by body_len bodies.now) (2 ^ 64 - 1))
+        × (IsTrue w.rise → AllPairs Rise bodies.now)) }
 {
     let mut walked = Walked { len: 0, rise: true };
     let mut least: u64 = 0;

@@ -199,7 +199,10 @@ impl Fitting for Script {
 
 /// How many canonical bytes the instances and classes have, if there are as many of both and some bytes spell each.
 fn len_of_classes(abc: &Abc, sizes: &Sizes) -> Option<u64>
-    ensures { MatchOption result (AreClasses sizes.now abc.now → ⊥) (λ n. AreClasses sizes.now abc.now × (n ≡ min (number_len (length (abc.now).classes) + sum_by instance_len (abc.now).instances + sum_by class_len (abc.now).classes) (2 ^ 64 - 1))) }
+    ensures { MatchOption result (AreClasses sizes.now abc.now → ⊥) (λ n. AreClasses sizes.now abc.now
+        × (n
+        ≡ min (number_len (length (abc.now).classes) + sum_by instance_len (abc.now).instances +
+        sum_by class_len (abc.now).classes) (2 ^ 64 - 1))) }
 {
     let count = abc.classes.len();
     if !is_count(count) || abc.instances.len() != count {
@@ -219,7 +222,8 @@ fn len_of_classes(abc: &Abc, sizes: &Sizes) -> Option<u64>
 #[tactic(auto, unfolding(crate::specs::Lengths::definitions_len), using(crate::proofs::DefinitionsFit::methods_fit, crate::proofs::DefinitionsFit::metadata_fits, crate::proofs::DefinitionsFit::classes_fit, crate::proofs::DefinitionsFit::scripts_fit, crate::proofs::DefinitionsFit::all_fit))]
 pub fn len_of_fitting(abc: &Abc, sizes: &Sizes) -> Option<u64>
     requires { sizes.now ≡ all_sizes abc.now }
-    ensures { MatchOption result (FitDefinitions abc.now → ⊥) (λ n. FitDefinitions abc.now × (n ≡ min (definitions_len abc.now) (2 ^ 64 - 1))) }
+    ensures { MatchOption result (FitDefinitions abc.now → ⊥)
+        (λ n. FitDefinitions abc.now × (n ≡ min (definitions_len abc.now) (2 ^ 64 - 1))) }
 {
     let methods = len_of_list(&abc.methods, sizes)?;
     let metadata = len_of_list(&abc.metadata, sizes)?;

@@ -1,5 +1,5 @@
 ghost use Rattle.std.specs.Prelude.{◌↔◌, ◌+◌, ◌<◌, ◌^◌, All, IsTrue};
-ghost use Rattle.abc_tables.specs.Fitting.{IsEntryIndex, IsNumber, IsPoolIndex, IsPosition};
+ghost use Rattle.abc_tables.specs.Fitting.{IsEntryIndex, FitsNumber, IsPoolIndex, IsPosition};
 
 use abc_file_types::U30_LIMIT;
 
@@ -20,7 +20,7 @@ pub fn is_pool_count(count: usize) -> bool
 /// Whether some bytes spell a number below 2^30.
 #[tactic(auto, using(crate::proofs::Combined::number_fits))]
 pub fn is_number(n: u32) -> bool
-    ensures { IsTrue result ↔ IsNumber n }
+    ensures { IsTrue result ↔ FitsNumber n }
 {
     n < U30_LIMIT
 }
@@ -51,7 +51,7 @@ pub fn is_entry_index(index: u32, size: u32) -> bool
 
 /// Whether that is so of each number.
 pub fn are_numbers(numbers: &[u32]) -> bool
-    ensures { IsTrue result ↔ All IsNumber numbers.now }
+    ensures { IsTrue result ↔ All FitsNumber numbers.now }
 {
     numbers.iter().all(|n| is_number(*n))
 }

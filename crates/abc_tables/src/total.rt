@@ -11,7 +11,9 @@ use abc_file_types::{Abc, count_len};
 #[tactic(auto, using(crate::proofs::Capped::both_capped))]
 pub fn len_before_bodies(abc: &Abc, definitions: u64) -> u64
     requires { definitions ≡ min (definitions_len abc.now) (2 ^ 64 - 1) }
-    ensures { result ≡ min (4 + pools_len abc.now + definitions_len abc.now + number_len (length (abc.now).bodies)) (2 ^ 64 - 1) }
+    ensures { result
+        ≡ min (4 + pools_len abc.now + definitions_len abc.now + number_len (length (abc.now).bodies))
+        (2 ^ 64 - 1) }
 {
     len_of_pools(abc)
         .saturating_add(4)

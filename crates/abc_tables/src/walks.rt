@@ -22,7 +22,8 @@ pub trait Fitting: Measured {
 
 /// How many canonical bytes the value has, if some bytes spell it. It is 2^64 - 1 where that is greater.
 fn len_of_one<T: Fitting>(item: &T, sizes: &Sizes) -> Option<u64>
-    ensures { MatchOption result (T.fits sizes.now item.now → ⊥) (λ n. T.fits sizes.now item.now × (n ≡ min (T.len item.now) (2 ^ 64 - 1))) }
+    ensures { MatchOption result (T.fits sizes.now item.now → ⊥)
+        (λ n. T.fits sizes.now item.now × (n ≡ min (T.len item.now) (2 ^ 64 - 1))) }
 {
     if !item.fits_in(sizes) {
         return None;
@@ -32,7 +33,8 @@ fn len_of_one<T: Fitting>(item: &T, sizes: &Sizes) -> Option<u64>
 
 /// The same for all values, one after the other, in one walk.
 pub fn len_of_each<T: Fitting>(items: &Table<T>, sizes: &Sizes) -> Option<u64>
-    ensures { MatchOption result (All (T.fits sizes.now) items.now → ⊥) (λ n. All (T.fits sizes.now) items.now × (n ≡ min (sum_by T.len items.now) (2 ^ 64 - 1))) }
+    ensures { MatchOption result (All (T.fits sizes.now) items.now → ⊥)
+        (λ n. All (T.fits sizes.now) items.now × (n ≡ min (sum_by T.len items.now) (2 ^ 64 - 1))) }
 {
     let mut len: u64 = 0;
     for item in items.as_slice() {
@@ -44,7 +46,9 @@ pub fn len_of_each<T: Fitting>(items: &Table<T>, sizes: &Sizes) -> Option<u64>
 
 /// The same for a count and the values.
 pub fn len_of_list<T: Fitting>(items: &Table<T>, sizes: &Sizes) -> Option<u64>
-    ensures { MatchOption result ((length items.now < 2 ^ 30) × All (T.fits sizes.now) items.now → ⊥) (λ n. (length items.now < 2 ^ 30) × All (T.fits sizes.now) items.now × (n ≡ min (counted_len T.len items.now) (2 ^ 64 - 1))) }
+    ensures { MatchOption result ((length items.now < 2 ^ 30) × All (T.fits sizes.now) items.now → ⊥)
+        (λ n. (length items.now < 2 ^ 30) × All (T.fits sizes.now) items.now
+        × (n ≡ min (counted_len T.len items.now) (2 ^ 64 - 1))) }
 {
     if !is_count(items.len()) {
         return None;

@@ -15,7 +15,7 @@ use Rattle.abc_text_lines.specs.Law.{Match}
 use Rattle.abc_text_lines.specs.Lines.{Row}
 use Rattle.abc_text_lines.specs.Rows.{Fault, Rows, fault}
 use Rattle.abc_text_lines.specs.Wordlines.{count_all, shows_operands}
-use Rattle.abc_text_lines.specs.Answers.{HasOneAnswer, IsAssemblyFault, IsAssemblyOf, IsListed, abc_of, first_in, initializer_in, instance_in, instance_of, joined, metadata_lines, metadata_of, outline_of, pairs}
+use Rattle.abc_text_lines.specs.Answers.{HasOneAnswer, IsAssemblyFault, IsAssemblyOf, AreFileLines, abc_of, first_in, initializer_in, instance_parts, instance_of_parts, flat_pairs, metadata_lines, metadata_of_parts, outline_of, pairs}
 use Rattle.abc_text_lines.specs.File.{InstanceAgrees, InstanceBelow, Outline, body_below, body_lines, classes, faults, file, instance_below, instance_lines, metadata, method_below, methods, pools, scripts, traits, where_set}
 use Rattle.abc_text_lines.specs.Lineforms.{InstanceHead}
 use Rattle.abc_text_lines.specs.Texts.{instances_in, rows_of, sizes_in}
@@ -28,11 +28,11 @@ length_map f (x ∷ xs) = ap (λ (n : ℕ). suc n) (length_map f xs)
 
 -- ---- an outline and its file
 
-pairs_back : (x : List (ℕ × ℕ)) → pairs (joined x) ≡ x
+pairs_back : (x : List (ℕ × ℕ)) → pairs (flat_pairs x) ≡ x
 pairs_back [] = refl
 pairs_back (p ∷ x) = ap (λ (l : List (ℕ × ℕ)). p ∷ l) (pairs_back x)
 
-metadata_back : (ms : List (ℕ × List (ℕ × ℕ))) → map metadata_lines (map metadata_of ms) ≡ ms
+metadata_back : (ms : List (ℕ × List (ℕ × ℕ))) → map metadata_lines (map metadata_of_parts ms) ≡ ms
 metadata_back [] = refl
 metadata_back (m ∷ ms) = let a = pairs_back m.1 in let b = metadata_back ms in rw (a, b) refl
 
@@ -47,13 +47,13 @@ some_back (Some x) some = refl
 some_back None some = absurd cc
 
 module _ (s : Sizes) (i : ℕ) where
-  instance_back : (x : InstanceHead × InstanceBelow s i) → InstanceAgrees s i x.0 x.1 → instance_in (instance_of x) ≡ x
+  instance_back : (x : InstanceHead × InstanceBelow s i) → InstanceAgrees s i x.0 x.1 → instance_parts (instance_of_parts x) ≡ x
   instance_back x agrees =
       let a = at_most_one x.1.0 (has_flag x.0.flags 0x08) agrees.0 in
       let b = some_back x.1.1.1 agrees.1 in
       ap (λ (l : List ℕ). (x.0, (l, (x.1.1.0, Some (initializer_in x.1.1.1))))) a ∙ ap (λ (o : Option (ℕ × List TraitInfo)). (x.0, (x.1.0, (x.1.1.0, o)))) b
 
-  instances_back : (n : ℕ) (xs : List (InstanceHead × InstanceBelow s i)) → (instance_lines s i n).fits xs → map instance_in (map instance_of xs) ≡ xs
+  instances_back : (n : ℕ) (xs : List (InstanceHead × InstanceBelow s i)) → (instance_lines s i n).fits xs → map instance_parts (map instance_of_parts xs) ≡ xs
   unfolding instance_lines
   instances_back n [] fit = refl
   instances_back n (x ∷ xs) fit = let a = instance_back x fit.0.1 in let b = instances_back n xs fit.2 in rw (a, b) refl
@@ -70,7 +70,7 @@ module _ (s : Sizes) (i : ℕ) where
   unfolding file pools methods method_below metadata instance_lines instance_below classes scripts body_lines body_below traits
   fits_any n m x fit = fit
 
-  shown_any : (n m : ℕ) (x : Outline s i) (rs : List Row) → Match shows_operands rs (rows.lines_of (file s i n) x) → Match shows_operands rs (rows.lines_of (file s i m) x)
+  shown_any : (n m : ℕ) (x : Outline s i) (rs : List Row) → Match shows_operands rs (rows.lines_of_value (file s i n) x) → Match shows_operands rs (rows.lines_of_value (file s i m) x)
   unfolding file pools methods method_below metadata instance_lines instance_below classes scripts body_lines body_below traits
   shown_any n m x rs match = match
 
@@ -78,19 +78,19 @@ module _ (s : Sizes) (i : ℕ) where
 
 -- the lines of a file, and that its fields fit, by sizes that are the file's
 record IsListedBy (s : Sizes) (i n : ℕ) (rs : List Row) (v : Abc) : Type 0 where
-  shown : Match shows_operands rs (rows.lines_of (file s i n) (outline_of s i v))
+  shown : Match shows_operands rs (rows.lines_of_value (file s i n) (outline_of s i v))
   fits : (file s i n).fits (outline_of s i v)
 
 abbrev same_sizes : List Row → Abc → Type 0
 same_sizes rs v = (sizes_of v ≡ sizes_in rs) × (length v.instances ≡ instances_in rs)
 
-sizes_same : (s : Sizes) (i n : ℕ) (rs : List Row) (v : Abc) → Match shows_operands rs (rows.lines_of (file s i n) (outline_of s i v)) → same_sizes rs v
+sizes_same : (s : Sizes) (i n : ℕ) (rs : List Row) (v : Abc) → Match shows_operands rs (rows.lines_of_value (file s i n) (outline_of s i v)) → same_sizes rs v
 sizes_same s i n rs v match =
     let c = are_counted s i n rs (outline_of s i v) match in
     let c1 = c.ints in let c2 = c.uints in let c3 = c.doubles in let c4 = c.strings in let c5 = c.namespaces in let c6 = c.sets in let c7 = c.names in let c8 = c.methods in
     let c9 : count_all 12 rs ≡ length v.metadata = c.metadata ∙ length_map metadata_lines v.metadata in
     let c10 = c.classes in
-    (rw (c1, c2, c3, c4, c5, c6, c7, c8, c9, c10) refl, sym (c.instance_list ∙ length_map instance_in v.instances))
+    (rw (c1, c2, c3, c4, c5, c6, c7, c8, c9, c10) refl, sym (c.instance_list ∙ length_map instance_parts v.instances))
 
 -- the lines of a text by its own sizes are those of a file by its sizes
 listed_by_file : (rs : List Row) (v : Abc) → IsListedBy (sizes_in rs) (instances_in rs) (length rs) rs v → IsListedBy (sizes_of v) (length v.instances) 0 rs v
@@ -127,32 +127,32 @@ module _ (text : List ℕ) where
   abbrev body : Rows (Outline s i)
   body = file s i (length rs)
 
-  decided : rows.IsDetermined shows_operands (faults s i) body rs
+  decided : rows.IsTextDetermined shows_operands (faults s i) body rs
   decided = rows_determined s i rs refl refl
 
   -- the file of an outline that the lines are those of
-  listed : (x : Outline s i) → rows.IsAssemblyOf shows_operands body rs x → IsListed rs (abc_of s i x)
+  listed : (x : Outline s i) → rows.IsAssemblyOf shows_operands body rs x → AreFileLines rs (abc_of s i x)
   listed x is =
       let v = abc_of s i x in
       let back = outline_back s i (length rs) x is.fits in
       let l : IsListedBy s i (length rs) rs v = record {
-        shown = subst (λ (y : Outline s i). Match shows_operands rs (rows.lines_of body y)) (sym back) is.shown;
+        shown = subst (λ (y : Outline s i). Match shows_operands rs (rows.lines_of_value body y)) (sym back) is.shown;
         fits = subst (λ (y : Outline s i). body.fits y) (sym back) is.fits;
       } in
       let by_file = listed_by_file rs v l in
       record { shown = by_file.shown; fits = by_file.fits; whole = ap (abc_of s i) back }
 
   -- the outline of a file that the lines are those of
-  outlined : (v : Abc) → IsListed rs v → rows.IsAssemblyOf shows_operands body rs (outline_of s i v)
+  outlined : (v : Abc) → AreFileLines rs v → rows.IsAssemblyOf shows_operands body rs (outline_of s i v)
   outlined v l = let b = listed_by_rows rs v (record { shown = l.shown; fits = l.fits }) in record { shown = b.shown; fits = b.fits }
 
-  whole_by_rows : (v : Abc) → IsListed rs v → abc_of s i (outline_of s i v) ≡ v
+  whole_by_rows : (v : Abc) → AreFileLines rs v → abc_of s i (outline_of s i v) ≡ v
   whole_by_rows v l = l.whole
 
-  one_listed : (v w : Abc) → IsListed rs v → IsListed rs w → v ≡ w
+  one_listed : (v w : Abc) → AreFileLines rs v → AreFileLines rs w → v ≡ w
   one_listed v w p q = sym (whole_by_rows v p) ∙ ap (abc_of s i) (decided.one_value (outline_of s i v) (outline_of s i w) (outlined v p) (outlined w q)) ∙ whole_by_rows w q
 
-  answer_of : (v : Abc) → IsListed rs v → ((v : Abc) × IsAssemblyOf text v) ⊎ ((f : Fault) × IsAssemblyFault text f)
+  answer_of : (v : Abc) → AreFileLines rs v → ((v : Abc) × IsAssemblyOf text v) ⊎ ((f : Fault) × IsAssemblyFault text f)
   answer_of v l =
       elim (cases_lt (2 ^ 24) (length (file_bytes v))) [
         | inl long ↦ inr (fault 1 reasons.FileTooLong, inr (v, l, long, refl))

@@ -4,14 +4,14 @@ use Rattle.std.specs.List.{AllByRecursion}
 use Rattle.std.specs.declared.result.Result.{Result}
 use Rattle.abc_text_lines.specs.Reasons.{least}
 use Rattle.abc_text_lines.specs.Words.{place_of}
-use Rattle.abc_text_lines.specs.Lines.{Row, places, places_shown}
-use Rattle.abc_text_lines.specs.Rows.{AllFit, Fault, Faults, Rows, Head, nothing, unless, code, coded, code_reads, code_after, is_label}
-use Rattle.abc_text_lines.specs.Law.{Among, Clean, IsLabel, Keeps, Lawful, Match, Next, Shows}
+use Rattle.abc_text_lines.specs.Lines.{Row, line_places, places_shown}
+use Rattle.abc_text_lines.specs.Rows.{AllFit, Fault, Faults, Rows, Head, empty_rows, unless, code_rows, instruction_first, code_reads, code_after, is_label}
+use Rattle.abc_text_lines.specs.Law.{Among, Clean, IsLabel, LineKeeps, Lawful, Match, Next, Shows}
 use Rattle.abc_text_lines.proofs.Bools.{if_is, split_bool}
 use Rattle.abc_text_lines.proofs.Pieces.{bind_err, bind_ok, fine, ok_is, unless_err, unless_ok}
 use Rattle.abc_text_lines.proofs.Many.{eq_refl, eq_true, label_place, none_inside, same_cons}
 
-coded_ok : {I : Type 0} (b : Bool) (i : I) (r : Result (List I × List Row) Fault) (x : List I) (rest : List Row) → coded b i r ≡ Ok (x, rest) → (y : List I) × (r ≡ Ok (y, rest)) × (x ≡ cond b y (i ∷ y))
+coded_ok : {I : Type 0} (b : Bool) (i : I) (r : Result (List I × List Row) Fault) (x : List I) (rest : List Row) → instruction_first b i r ≡ Ok (x, rest) → (y : List I) × (r ≡ Ok (y, rest)) × (x ≡ cond b y (i ∷ y))
 coded_ok true i r x rest e = (x, e, refl)
 coded_ok {I} false i r x rest e =
     let a = bind_ok r (λ z. Ok (i ∷ z.0, z.1)) (x, rest) e in
@@ -19,13 +19,13 @@ coded_ok {I} false i r x rest e =
     let all = ok_is made (x, rest) a.2 in
     (a.0.0, a.1 ∙ ap (λ (l : List Row). fine (a.0.0, l)) (ap (λ (z : List I × List Row). z.1) all), sym (ap (λ (z : List I × List Row). z.0) all))
 
-coded_err : {I : Type 0} (b : Bool) (i : I) (r : Result (List I × List Row) Fault) (f : Fault) → coded b i r ≡ Err f → r ≡ Err f
+coded_err : {I : Type 0} (b : Bool) (i : I) (r : Result (List I × List Row) Fault) (f : Fault) → instruction_first b i r ≡ Err f → r ≡ Err f
 coded_err true i r f e = e
 coded_err false i r f e = elim (bind_err r (λ z. Ok (i ∷ z.0, z.1)) f e) [ inl h ↦ h | inr a ↦ absurd cc ]
 
-module _ {I : Type 0} (given : Type 0) (same : Shows) (faults : Faults) (head : Head I (Unit {0})) (keeps : Keeps given same faults head nothing) (here : head.place ≡ 23) (plain_words : (i : I) → is_label (head.word i) ≡ false) (labels_clean : (row : Row) (after : List Row) → IsLabel row → least (faults row after) ≡ None) (labels_found : (row : Row) (after : List Row) → is_label row.word ≡ true → least (faults row after) ≡ None → IsLabel row) where
+module _ {I : Type 0} (given : Type 0) (same : Shows) (faults : Faults) (head : Head I (Unit {0})) (keeps : LineKeeps given same faults head empty_rows) (here : head.place ≡ 23) (plain_words : (i : I) → is_label (head.word i) ≡ false) (labels_clean : (row : Row) (after : List Row) → IsLabel row → least (faults row after) ≡ None) (labels_found : (row : Row) (after : List Row) → is_label row.word ≡ true → least (faults row after) ≡ None → IsLabel row) where
   abbrev part : ℕ → Rows (List I)
-  part k = code faults head k
+  part k = code_rows faults head k
 
   code_first : (k : ℕ) (x : List I) (w : ℕ) (more : List ℕ) → places_shown (code_after head k x) ≡ w ∷ more → Among w (head.place ∷ [])
   code_first k [] w more e = absurd cc
@@ -36,20 +36,20 @@ module _ {I : Type 0} (given : Type 0) (same : Shows) (faults : Faults) (head : 
   code_inside k (i ∷ is) [] w more e = code_first k (i ∷ is) w more e
   code_inside k (i ∷ is) (v ∷ before) w more e = let tail : places_shown (code_after head (k + 1) is) ≡ before ++ w ∷ more = cc in code_inside (k + 1) is before w more tail
 
-  after_begins : (k : ℕ) (x : List I) (front : List Row) (w : ℕ) (more : List ℕ) → Match same front (code_after head k x) → places front ≡ w ∷ more → Among w (head.place ∷ [])
-  after_begins k [] front w more match e = let none : places front ≡ [] = ap places match in absurd cc
+  after_begins : (k : ℕ) (x : List I) (front : List Row) (w : ℕ) (more : List ℕ) → Match same front (code_after head k x) → line_places front ≡ w ∷ more → Among w (head.place ∷ [])
+  after_begins k [] front w more match e = let none : line_places front ≡ [] = ap line_places match in absurd cc
   after_begins k (i ∷ is) front w more match e =
-      let all : places front ≡ place_of match.0.word ∷ places match.1 = ap places match.2 in
+      let all : line_places front ≡ place_of match.0.word ∷ line_places match.1 = ap line_places match.2 in
       let h : place_of match.0.word ≡ w = cc in
       inl (sym h ∙ ap place_of match.3.word ∙ keeps.at i)
 
-  labels_begin : (k : ℕ) (x : List I) (labels others : List Row) (w : ℕ) (more : List ℕ) → AllByRecursion IsLabel labels → Match same others (code_after head k x) → places (labels ++ others) ≡ w ∷ more → Among w (head.place ∷ [])
+  labels_begin : (k : ℕ) (x : List I) (labels others : List Row) (w : ℕ) (more : List ℕ) → AllByRecursion IsLabel labels → Match same others (code_after head k x) → line_places (labels ++ others) ≡ w ∷ more → Among w (head.place ∷ [])
   labels_begin k x [] others w more all match e = after_begins k x others w more match e
   labels_begin k x (row ∷ labels) others w more all match e =
       let h : place_of row.word ≡ w = cc in inl (sym h ∙ label_place row.word all.0.word ∙ sym here)
 
-  code_begins : (k : ℕ) (x : List I) (front : List Row) (w : ℕ) (more : List ℕ) → Match same front ((part k).shows x) → places front ≡ w ∷ more → Among w (head.place ∷ [])
-  code_begins k x front w more match e = labels_begin k x match.0 match.1 w more match.3 match.4 (sym (ap places match.2) ∙ e)
+  code_begins : (k : ℕ) (x : List I) (front : List Row) (w : ℕ) (more : List ℕ) → Match same front ((part k).shows x) → line_places front ≡ w ∷ more → Among w (head.place ∷ [])
+  code_begins k x front w more match e = labels_begin k x match.0 match.1 w more match.3 match.4 (sym (ap line_places match.2) ∙ e)
 
   -- one more line at the front, a label line or an instruction
   front_shown : (k : ℕ) (row : Row) (rows : List Row) (front : List Row) (y : List I) (b : Bool) → is_label row.word ≡ b → place_of row.word ≡ head.place → least (faults row rows) ≡ None → ((k : ℕ) → Match same front ((part k).shows y)) → Match same (row ∷ front) ((part k).shows (cond b y (head.value row ∷ y)))
@@ -73,8 +73,8 @@ module _ {I : Type 0} (given : Type 0) (same : Shows) (faults : Faults) (head : 
     clean : Clean faults front rest
     fits : given → AllFit head x
     like : List I
-    alike : (k : ℕ) → places_shown (code_after head k like) ≡ places front
-    all : (w : ℕ) → Among w (places front) → w ≡ head.place
+    alike : (k : ℕ) → places_shown (code_after head k like) ≡ line_places front
+    all : (w : ℕ) → Among w (line_places front) → w ≡ head.place
     other : Next rest head.place → ⊥
 
   none_taken : (rows : List Row) (x : List I) (rest : List Row) → (Next rows head.place → ⊥) → made_of [] rows ≡ made_of x rest → CodeTaken rows x rest
@@ -86,11 +86,11 @@ module _ {I : Type 0} (given : Type 0) (same : Shows) (faults : Faults) (head : 
   code_taken : (rows : List Row) (x : List I) (rest : List Row) → code_reads faults head rows ≡ Ok (x, rest) → CodeTaken rows x rest
   code_taken [] x rest e = none_taken [] x rest (λ h. h) e
   code_taken (row ∷ rows) x rest e =
-      elim (if_is (nat_eq (place_of row.word) head.place) (unless (least (faults row rows)) row.number (coded (is_label row.word) (head.value row) (code_reads faults head rows))) (Ok ([], row ∷ rows)) (Ok (x, rest)) e) [
+      elim (if_is (nat_eq (place_of row.word) head.place) (unless (least (faults row rows)) row.number (instruction_first (is_label row.word) (head.value row) (code_reads faults head rows))) (Ok ([], row ∷ rows)) (Ok (x, rest)) e) [
         | inr c ↦ none_taken (row ∷ rows) x rest (λ h. let yes : nat_eq (place_of row.word) head.place ≡ true = eq_refl (place_of row.word) head.place h in absurd cc) c.1
         | inl c ↦
             let is : place_of row.word ≡ head.place = eq_true (place_of row.word) head.place c.0 in
-            let u = unless_ok (least (faults row rows)) row.number (coded (is_label row.word) (head.value row) (code_reads faults head rows)) (x, rest) c.1 in
+            let u = unless_ok (least (faults row rows)) row.number (instruction_first (is_label row.word) (head.value row) (code_reads faults head rows)) (x, rest) c.1 in
             let a = coded_ok (is_label row.word) (head.value row) (code_reads faults head rows) x rest u.1 in
             let t = code_taken rows a.0 rest a.1 in
             subst (λ (z : List I). CodeTaken (row ∷ rows) z rest) (sym a.2)
@@ -101,7 +101,7 @@ module _ {I : Type 0} (given : Type 0) (same : Shows) (faults : Faults) (head : 
               clean = (subst (λ (l : List Row). least (faults row l) ≡ None) t.parts u.0, t.clean);
               fits = λ all. front_fits all row rows a.0 (is_label row.word) refl is u.0 (t.fits all);
               like = head.value row ∷ t.like;
-              alike = λ k. same_cons (place_of (head.word (head.value row))) (place_of row.word) (places_shown (code_after head (k + 1) t.like)) (places t.front) (keeps.at (head.value row) ∙ sym is) (t.alike (k + 1));
+              alike = λ k. same_cons (place_of (head.word (head.value row))) (place_of row.word) (places_shown (code_after head (k + 1) t.like)) (line_places t.front) (keeps.at (head.value row) ∙ sym is) (t.alike (k + 1));
               all = λ w h. elim h [ inl e ↦ e ∙ is | inr m ↦ t.all w m ];
               other = t.other;
             })
@@ -116,17 +116,17 @@ module _ {I : Type 0} (given : Type 0) (same : Shows) (faults : Faults) (head : 
     reason : least (faults row after) ≡ Some f.reason
     line : f.line ≡ row.number
     like : List I
-    alike : (k : ℕ) → places_shown (code_after head k like) ≡ places front ++ place_of row.word ∷ []
+    alike : (k : ℕ) → places_shown (code_after head k like) ≡ line_places front ++ place_of row.word ∷ []
 
   code_refused : (rows : List Row) (f : Fault) → code_reads faults head rows ≡ Err f → CodeRefused rows f
   code_refused [] f e = absurd cc
   code_refused (row ∷ rows) f e =
-      elim (if_is (nat_eq (place_of row.word) head.place) (unless (least (faults row rows)) row.number (coded (is_label row.word) (head.value row) (code_reads faults head rows))) (Ok ([], row ∷ rows)) (Err f) e) [
+      elim (if_is (nat_eq (place_of row.word) head.place) (unless (least (faults row rows)) row.number (instruction_first (is_label row.word) (head.value row) (code_reads faults head rows))) (Ok ([], row ∷ rows)) (Err f) e) [
         | inr c ↦ absurd cc
         | inl c ↦
             let is : place_of row.word ≡ head.place = eq_true (place_of row.word) head.place c.0 in
             let here_alike : (k : ℕ) → place_of (head.word (head.value row)) ≡ place_of row.word = λ k. keeps.at (head.value row) ∙ sym is in
-            elim (unless_err (least (faults row rows)) row.number (coded (is_label row.word) (head.value row) (code_reads faults head rows)) f c.1) [
+            elim (unless_err (least (faults row rows)) row.number (instruction_first (is_label row.word) (head.value row) (code_reads faults head rows)) f c.1) [
               | inl now ↦ record { front = []; row = row; after = rows; parts = refl; clean = tt; reason = now.0; line = now.1; like = head.value row ∷ []; alike = λ k. same_cons _ _ [] [] (here_alike k) refl }
               | inr later ↦
                   let r = code_refused rows f (coded_err (is_label row.word) (head.value row) (code_reads faults head rows) f later.1) in
@@ -139,7 +139,7 @@ module _ {I : Type 0} (given : Type 0) (same : Shows) (faults : Faults) (head : 
                     reason = r.reason;
                     line = r.line;
                     like = head.value row ∷ r.like;
-                    alike = λ k. same_cons (place_of (head.word (head.value row))) (place_of row.word) (places_shown (code_after head (k + 1) r.like)) (places r.front ++ place_of r.row.word ∷ []) (here_alike k) (r.alike (k + 1));
+                    alike = λ k. same_cons (place_of (head.word (head.value row))) (place_of row.word) (places_shown (code_after head (k + 1) r.like)) (line_places r.front ++ place_of r.row.word ∷ []) (here_alike k) (r.alike (k + 1));
                   }
             ]
       ]
@@ -182,7 +182,7 @@ module _ {I : Type 0} (given : Type 0) (same : Shows) (faults : Faults) (head : 
   code-lawful n k = record {
     taken = λ rows x rest le e.
         let t = code_taken rows x rest e in
-        record { front = t.front; parts = t.parts; shown = t.shown k; clean = t.clean; fits = λ all free. t.fits all; like = t.like; alike = t.alike k; stops = λ y w more s h. code_stops k y (places t.front) w more rest t.other s h };
+        record { front = t.front; parts = t.parts; shown = t.shown k; clean = t.clean; fits = λ all free. t.fits all; like = t.like; alike = t.alike k; stops = λ y w more s h. code_stops k y (line_places t.front) w more rest t.other s h };
     refused = λ rows f le e.
         let r = code_refused rows f e in
         record { front = r.front; row = r.row; after = r.after; parts = r.parts; clean = r.clean; reason = r.reason; line = r.line; like = r.like; more = []; alike = r.alike k };

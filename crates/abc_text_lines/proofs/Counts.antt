@@ -6,9 +6,9 @@ use Rattle.abc_text_lines.specs.Words.{place_of}
 use Rattle.abc_text_lines.proofs.Bools.{split_bool}
 use Rattle.abc_text_lines.specs.Lines.{Row, Shown, Line, Labels, places_shown}
 use Rattle.abc_text_lines.specs.Operands.{Operands}
-use Rattle.abc_text_lines.specs.Rows.{Head, Rows, items_shown, nothing}
+use Rattle.abc_text_lines.specs.Rows.{Head, Rows, items_shown, empty_rows}
 use Rattle.abc_text_lines.specs.Law.{Among, IsLabel, Match, Next, Shows}
-use Rattle.abc_text_lines.specs.Wordlines.{always, among, count_all, count_in, count_lines, line}
+use Rattle.abc_text_lines.specs.Wordlines.{always, among, count_all, count_in, count_lines, lines_of_word}
 use Rattle.abc_text_lines.proofs.Many.{eq_refl, eq_true, label_place}
 use Rattle.abc_text_lines.proofs.Pieces.{shown-append}
 use Rattle.abc_text_lines.proofs.Wordlines.{yes_among}
@@ -29,7 +29,7 @@ count_in-none place (p ∷ ps) has inside free =
     ]
 
 -- lines of one word with no lines below them
-pub flat_count : {A : Type 0} (w : Word) (p : Operands A) (xs : List A) → count_in (place_of w) (places_shown (items_shown (line w p always) nothing (map (λ (x : A). (x, tt)) xs))) ≡ length xs
+pub flat_count : {A : Type 0} (w : Word) (p : Operands A) (xs : List A) → count_in (place_of w) (places_shown (items_shown (lines_of_word w p always) empty_rows (map (λ (x : A). (x, tt)) xs))) ≡ length xs
 flat_count w p [] = refl
 flat_count w p (x ∷ xs) = let yes : nat_eq (place_of w) (place_of w) ≡ true = eq_refl (place_of w) (place_of w) refl in let more = flat_count w p xs in rw yes (omega (arith, more))
 

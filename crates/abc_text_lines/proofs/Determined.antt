@@ -4,12 +4,12 @@ use Rattle.std.specs.declared.result.Result.{Result}
 use Rattle.abc_text_lines.specs.declared.reason.AsmReason.{AsmReason}
 use Rattle.abc_text_lines.specs.declared.reason.AsmReason.TheVariants as reasons
 use Rattle.abc_text_lines.specs.declared.word.Word.TheVariants as words
-use Rattle.abc_text_lines.specs.Reasons.{least, lesser, rank}
+use Rattle.abc_text_lines.specs.Reasons.{least, lesser, rank_of_reason}
 use Rattle.abc_text_lines.specs.Words.{place_of}
-use Rattle.abc_text_lines.specs.Lines.{Row, Number, places, places_shown}
+use Rattle.abc_text_lines.specs.Lines.{Row, Number, line_places, places_shown}
 use Rattle.abc_text_lines.specs.Rows.{Fault, Faults, Rows, fault, unless, ◌>>=◌}
 use Rattle.abc_text_lines.specs.Law.{Clean, IsLine, Lawful, Match, Refused, Shows, Taken}
-use Rattle.abc_text_lines.specs.Assembly.{CanBegin, HasReason, IsAssemblyFault, IsAssemblyOf, IsDetermined, IsFaultOf, assembles, ended, lines_of, misplaced}
+use Rattle.abc_text_lines.specs.Assembly.{CanBeginLines, HasReason, IsAssemblyFault, IsAssemblyOf, IsTextDetermined, IsFaultOf, assembles, end_or_fault, lines_of_value, order_fault}
 use Rattle.abc_text_lines.proofs.Leasts.{least_none, least_some, lesser_least, same_rank}
 use Rattle.abc_text_lines.proofs.Many.{eq_refl, eq_true}
 use Rattle.abc_text_lines.proofs.Bools.{if_is}
@@ -54,11 +54,11 @@ module _ {A : Type 0} (given : Type 0) (same : Shows) (faults : Faults) (body : 
   NoReason rows = (a : List Row) (row : Row) (b : List Row) (reason : AsmReason) → rows ≡ a ++ row ∷ b → HasReason faults body a row b reason → ⊥
 
   -- where the lines up to some point are clean and begin those of a value, no reason holds up to there
-  none_before : (front rest : List Row) (v : A) (more : List ℕ) → Clean faults front rest → places_shown (lines_of body v) ≡ places front ++ more → (a : List Row) (row : Row) (b : List Row) (reason : AsmReason) → front ≡ a ++ row ∷ b → HasReason faults body a row (b ++ rest) reason → ⊥
+  none_before : (front rest : List Row) (v : A) (more : List ℕ) → Clean faults front rest → places_shown (lines_of_value body v) ≡ line_places front ++ more → (a : List Row) (row : Row) (b : List Row) (reason : AsmReason) → front ≡ a ++ row ∷ b → HasReason faults body a row (b ++ rest) reason → ⊥
   none_before front rest v more clean alike a row b reason e h =
       elim h [
         | inl i ↦ least_none (faults row (b ++ rest)) reason (Clean-at faults a row b rest (subst (λ (l : List Row). Clean faults l rest) e clean)) i
-        | inr o ↦ o.1 (v, places b ++ more, alike ∙ ap (λ (l : List Row). places l ++ more) e ∙ ap (λ (l : List ℕ). l ++ more) (places-append a (row ∷ b)) ∙ regrouped (places a) (place_of row.word) (places b) more)
+        | inr o ↦ o.1 (v, line_places b ++ more, alike ∙ ap (λ (l : List Row). line_places l ++ more) e ∙ ap (λ (l : List ℕ). l ++ more) (places-append a (row ∷ b)) ∙ regrouped (line_places a) (place_of row.word) (line_places b) more)
       ]
 
   moved_holds : (front : List Row) (r s : Row) (a b : List Row) (reason : AsmReason) → r ∷ a ≡ s ∷ b → HasReason faults body front r a reason → HasReason faults body front s b reason
@@ -67,7 +67,7 @@ module _ {A : Type 0} (given : Type 0) (same : Shows) (faults : Faults) (body : 
       let e2 : a ≡ b = cc in
       subst (λ (x : Row). HasReason faults body front x b reason) e1 (subst (λ (l : List Row). HasReason faults body front r l reason) e2 h)
 
-  fault_is : (f g : Fault) → f.line ≡ g.line → rank f.reason ≤ rank g.reason → rank g.reason ≤ rank f.reason → f ≡ g
+  fault_is : (f g : Fault) → f.line ≡ g.line → rank_of_reason f.reason ≤ rank_of_reason g.reason → rank_of_reason g.reason ≤ rank_of_reason f.reason → f ≡ g
   fault_is f g e le ge = let r : f.reason ≡ g.reason = same_rank f.reason g.reason (omega arith) in rw (← fault_eta f, ← fault_eta g, e, r) refl
 
   met : (rows : List Row) (f g : Fault) (p : IsFaultOf faults body rows f) (q : IsFaultOf faults body rows g) (m : List Row) → p.front ≡ q.front ++ m → q.row ∷ q.after ≡ m ++ p.row ∷ p.after → f ≡ g
@@ -96,7 +96,7 @@ module _ {A : Type 0} (given : Type 0) (same : Shows) (faults : Faults) (body : 
     clean : NoReason rows
 
   -- a line that may not stand where it does
-  misplaced_fault : (front : List Row) (row : Row) (after : List Row) (v : A) → Clean faults front (row ∷ after) → places_shown (lines_of body v) ≡ places front → ¬ CanBegin body (places front ++ place_of row.word ∷ []) → IsFaultOf faults body (front ++ row ∷ after) (fault row.number (lesser reasons.Order (least (faults row after))))
+  misplaced_fault : (front : List Row) (row : Row) (after : List Row) (v : A) → Clean faults front (row ∷ after) → places_shown (lines_of_value body v) ≡ line_places front → ¬ CanBeginLines body (line_places front ++ place_of row.word ∷ []) → IsFaultOf faults body (front ++ row ∷ after) (fault row.number (lesser reasons.Order (least (faults row after))))
   misplaced_fault front row after v clean alike no_value =
       let m = lesser_least reasons.Order (faults row after) in
       record {
@@ -105,7 +105,7 @@ module _ {A : Type 0} (given : Type 0) (same : Shows) (faults : Faults) (body : 
         after = after;
         parts = refl;
         line = refl;
-        before = none_before front (row ∷ after) v [] clean (alike ∙ sym (append-nil (places front)));
+        before = none_before front (row ∷ after) v [] clean (alike ∙ sym (append-nil (line_places front)));
         holds = elim m.among [ inl e ↦ inr (e, no_value) | inr i ↦ inl i ];
         first = λ s h. m.first s (elim h [ inl i ↦ inr i | inr o ↦ inl o.0 ]);
       }
@@ -113,7 +113,7 @@ module _ {A : Type 0} (given : Type 0) (same : Shows) (faults : Faults) (body : 
   refused_fault : (row : Row) (rows : List Row) (f : Fault) → place_of row.word ≡ 0 → least (faults row rows) ≡ None → Refused faults body rows f → IsFaultOf faults body (row ∷ rows) f
   refused_fault row rows f here clean r =
       let m = least_some (faults r.row r.after) f.reason r.reason in
-      let alike : places_shown (lines_of body r.like) ≡ places (row ∷ r.front) ++ place_of r.row.word ∷ r.more = cons_same (place_of row.word) 0 (places r.front ++ place_of r.row.word ∷ r.more) (places_shown (body.shows r.like)) here r.alike in
+      let alike : places_shown (lines_of_value body r.like) ≡ line_places (row ∷ r.front) ++ place_of r.row.word ∷ r.more = cons_same (place_of row.word) 0 (line_places r.front ++ place_of r.row.word ∷ r.more) (places_shown (body.shows r.like)) here r.alike in
       record {
         front = row ∷ r.front;
         row = r.row;
@@ -122,7 +122,7 @@ module _ {A : Type 0} (given : Type 0) (same : Shows) (faults : Faults) (body : 
         line = r.line;
         before = none_before (row ∷ r.front) (r.row ∷ r.after) r.like (place_of r.row.word ∷ r.more) (subst (λ (l : List Row). least (faults row l) ≡ None) r.parts clean, r.clean) alike;
         holds = inl m.among;
-        first = λ s h. elim h [ inl i ↦ m.first s i | inr o ↦ absurd (o.1 (r.like, r.more, alike ∙ sym (append_assoc (places (row ∷ r.front)) (place_of r.row.word ∷ []) r.more))) ];
+        first = λ s h. elim h [ inl i ↦ m.first s i | inr o ↦ absurd (o.1 (r.like, r.more, alike ∙ sym (append_assoc (line_places (row ∷ r.front)) (place_of r.row.word ∷ []) r.more))) ];
       }
 
   version_fault : (row : Row) (rows : List Row) (f : Fault) → place_of row.word ≡ 0 → least (faults row rows) ≡ Some f.reason → f.line ≡ row.number → A → IsFaultOf faults body (row ∷ rows) f
@@ -159,11 +159,11 @@ module _ {A : Type 0} (given : Type 0) (same : Shows) (faults : Faults) (body : 
     err : (f : Fault) → res ≡ Err f → IsFaultOf faults body rows f
 
   module _ (n : ℕ) (lawful : Lawful given same faults n body) where
-    finished : (row : Row) (rows : List Row) → (Clean faults (row ∷ rows) [] → given) → (x : A) (rest : List Row) → place_of row.word ≡ 0 → least (faults row rows) ≡ None → Taken given same faults body rows x rest → Outcome (row ∷ rows) (ended faults (x, rest))
+    finished : (row : Row) (rows : List Row) → (Clean faults (row ∷ rows) [] → given) → (x : A) (rest : List Row) → place_of row.word ≡ 0 → least (faults row rows) ≡ None → Taken given same faults body rows x rest → Outcome (row ∷ rows) (end_or_fault faults (x, rest))
     finished row rows given_holds x [] here clean t =
         let all : rows ≡ t.front = t.parts ∙ append-nil t.front in
-        let shown : Match same (row ∷ rows) (lines_of body x) = (row, rows, refl, version_found row rows here clean, subst (λ (l : List Row). Match same l (body.shows x)) (sym all) t.shown) in
-        let alike : places_shown (lines_of body t.like) ≡ places (row ∷ t.front) ++ [] = cons_same (place_of row.word) 0 (places t.front) (places_shown (body.shows t.like)) here t.alike ∙ sym (append-nil (places (row ∷ t.front))) in
+        let shown : Match same (row ∷ rows) (lines_of_value body x) = (row, rows, refl, version_found row rows here clean, subst (λ (l : List Row). Match same l (body.shows x)) (sym all) t.shown) in
+        let alike : places_shown (lines_of_value body t.like) ≡ line_places (row ∷ t.front) ++ [] = cons_same (place_of row.word) 0 (line_places t.front) (places_shown (body.shows t.like)) here t.alike ∙ sym (append-nil (line_places (row ∷ t.front))) in
         let cleaned : Clean faults (row ∷ t.front) [] = (subst (λ (l : List Row). least (faults row l) ≡ None) t.parts clean, t.clean) in
         let none : NoReason (row ∷ rows) = λ a other b reason e h.
         none_before (row ∷ t.front) [] t.like [] cleaned alike a other b reason (ap (λ (l : List Row). row ∷ l) (sym all) ∙ e) (subst (λ (l : List Row). HasReason faults body a other l reason) (sym (append-nil b)) h) in
@@ -172,10 +172,10 @@ module _ {A : Type 0} (given : Type 0) (same : Shows) (faults : Faults) (body : 
           err = λ f e. absurd cc;
         }
     finished row rows given_holds x (other ∷ after) here clean t =
-        let alike : places_shown (lines_of body t.like) ≡ places (row ∷ t.front) = cons_same (place_of row.word) 0 (places t.front) (places_shown (body.shows t.like)) here t.alike in
+        let alike : places_shown (lines_of_value body t.like) ≡ line_places (row ∷ t.front) = cons_same (place_of row.word) 0 (line_places t.front) (places_shown (body.shows t.like)) here t.alike in
         let cleaned : Clean faults (row ∷ t.front) (other ∷ after) = (subst (λ (l : List Row). least (faults row l) ≡ None) t.parts clean, t.clean) in
-        let stop : ¬ CanBegin body (places (row ∷ t.front) ++ place_of other.word ∷ []) = λ c.
-        t.stops c.0 (place_of other.word) c.1 (tail_is (place_of row.word) 0 (places_shown (body.shows c.0)) (places t.front) (place_of other.word) c.1 c.2) refl in
+        let stop : ¬ CanBeginLines body (line_places (row ∷ t.front) ++ place_of other.word ∷ []) = λ c.
+        t.stops c.0 (place_of other.word) c.1 (tail_is (place_of row.word) 0 (places_shown (body.shows c.0)) (line_places t.front) (place_of other.word) c.1 c.2) refl in
         record {
           ok = λ v e. absurd cc;
           err = λ f e.
@@ -184,21 +184,21 @@ module _ {A : Type 0} (given : Type 0) (same : Shows) (faults : Faults) (body : 
               subst (λ (l : List Row). IsFaultOf faults body l f) (sym (ap (λ (l : List Row). row ∷ l) t.parts)) (subst (λ (h : Fault). IsFaultOf faults body (row ∷ (t.front ++ other ∷ after)) h) same_fault (misplaced_fault (row ∷ t.front) other after t.like cleaned alike stop));
         }
 
-    after_version : (row : Row) (rows : List Row) → (Clean faults (row ∷ rows) [] → given) → length rows ≤ n → place_of row.word ≡ 0 → least (faults row rows) ≡ None → (r : Result (A × List Row) Fault) → body.reads rows ≡ r → Outcome (row ∷ rows) (r >>= λ x. ended faults x)
+    after_version : (row : Row) (rows : List Row) → (Clean faults (row ∷ rows) [] → given) → length rows ≤ n → place_of row.word ≡ 0 → least (faults row rows) ≡ None → (r : Result (A × List Row) Fault) → body.reads rows ≡ r → Outcome (row ∷ rows) (r >>= λ x. end_or_fault faults x)
     after_version row rows g le here clean (Ok x) e = finished row rows g x.0 x.1 here clean (lawful.taken rows x.0 x.1 le e)
     after_version row rows g le here clean (Err d) e =
         record { ok = λ v h. absurd cc; err = λ f h. subst (λ (g : Fault). IsFaultOf faults body (row ∷ rows) g) (err_is {A = A} d f h) (refused_fault row rows d here clean (lawful.refused rows d le e)) }
 
     outcome : (row : Row) (rows : List Row) → (Clean faults (row ∷ rows) [] → given) → length rows ≤ n → Outcome (row ∷ rows) (assembles faults body (row ∷ rows))
     outcome row rows g le = record {
-      ok = λ v e. elim (if_is (nat_eq (place_of row.word) 0) (unless (least (faults row rows)) row.number (body.reads rows >>= λ x. ended faults x)) (misplaced faults row rows) (Ok v) e) [
+      ok = λ v e. elim (if_is (nat_eq (place_of row.word) 0) (unless (least (faults row rows)) row.number (body.reads rows >>= λ x. end_or_fault faults x)) (order_fault faults row rows) (Ok v) e) [
         | inl c ↦
-            let u = unless_ok (least (faults row rows)) row.number (body.reads rows >>= λ x. ended faults x) v c.1 in
+            let u = unless_ok (least (faults row rows)) row.number (body.reads rows >>= λ x. end_or_fault faults x) v c.1 in
             (after_version row rows g le (eq_true (place_of row.word) 0 c.0) u.0 (body.reads rows) refl).ok v u.1
         | inr c ↦ absurd cc
       ];
-      err = λ f e. elim (if_is (nat_eq (place_of row.word) 0) (unless (least (faults row rows)) row.number (body.reads rows >>= λ x. ended faults x)) (misplaced faults row rows) (Err f) e) [
-        | inl c ↦ elim (unless_err (least (faults row rows)) row.number (body.reads rows >>= λ x. ended faults x) f c.1) [
+      err = λ f e. elim (if_is (nat_eq (place_of row.word) 0) (unless (least (faults row rows)) row.number (body.reads rows >>= λ x. end_or_fault faults x)) (order_fault faults row rows) (Err f) e) [
+        | inl c ↦ elim (unless_err (least (faults row rows)) row.number (body.reads rows >>= λ x. end_or_fault faults x) f c.1) [
           | inl now ↦ version_fault row rows f (eq_true (place_of row.word) 0 c.0) now.0 now.1 lawful.some
           | inr later ↦ (after_version row rows g le (eq_true (place_of row.word) 0 c.0) later.0 (body.reads rows) refl).err f later.1
         ]
@@ -241,7 +241,7 @@ module _ {A : Type 0} (given : Type 0) (same : Shows) (faults : Faults) (body : 
         let a = (outcome row rows g (omega arith)).ok v (assembles_it (row ∷ rows) v le is) in
         a.clean bad.front bad.row bad.after f.reason bad.parts bad.holds
 
-    pub determined : (rows : List Row) → (Clean faults rows [] → given) → length rows ≤ suc n → IsDetermined same faults body rows
+    pub determined : (rows : List Row) → (Clean faults rows [] → given) → length rows ≤ suc n → IsTextDetermined same faults body rows
     determined rows g le = record {
       some = either rows g le (assembles faults body rows) refl;
       one_value = λ v w p q. ok_is v w (sym (assembles_it rows v le p) ∙ assembles_it rows w le q);

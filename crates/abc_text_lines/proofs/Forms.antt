@@ -21,28 +21,28 @@ use Rattle.abc_file_types.specs.declared.code.Instr.{Instr}
 use Rattle.abc_file_types.specs.declared.code.Instr.TheVariants as instrs
 use Rattle.abc_file_types.specs.declared.opcodes.Form.{Form}
 use Rattle.abc_file_types.specs.declared.opcodes.Form.TheVariants as forms
-use Rattle.abc_file_types.specs.Opcodes.{branches, form_at, form_of, info_at, is_in, name_in, named, one_operand, two_operands}
+use Rattle.abc_file_types.specs.Opcodes.{branches, form_at, form_of, info_at, is_in, name_in, names_of_opcodes, one_operand, two_operands}
 use Rattle.abc_file_types.specs.Traits.{trait_kind_in}
-use Rattle.abc_text_lines.specs.Operands.{AreOperands, IsOperand, Operand, any_number, by, eight, entry_upto, exactly, index_below, index_upto, none, number_below, several, signed_between, target, text, u30, ◌&◌}
+use Rattle.abc_text_lines.specs.Operands.{AreOperands, IsOperand, Operand, any_number, by, eight, entry_upto, exactly, index_operand_below, index_upto, none, number_below, several, signed_between, target, text_operand, u30_operand, ◌&◌}
 use Rattle.abc_text_lines.proofs.Operanding.{any_number-is, any_signed-is, by-are, checked-is, eight-is, kind-is, none-are, number_below-is, seen-are, several-are, target-is, text-is, then-are}
 use Rattle.abc_text_lines.proofs.Wordlines.{lookup_there}
 use Rattle.abc_text_lines.specs.Wordlines.{lookup}
-use Rattle.abc_text_lines.specs.Kinds.{multiname_kind, multiname_word, multiname_words, space_kind, space_word, space_words, trait_kind, trait_word, trait_words, value_kind, value_word, value_words}
-use Rattle.abc_text_lines.specs.Lineforms.{debug_in, first_of, kind_or, one_of, pair_in, second_of, signed_in, slot_in, switch_in, two_of, type_of, TraitHead, alone, body_line, by_form, catch_line, double_line, entry_line, implements_line, instance_line, instruction_fields, instruction_line, int_line, kind_in, method_index_line, method_line, multiname_fields, multiname_rest, name_line, namespace_line, number_line, opcode_of, option_line, option_rest, pair_fields, param_line, protected_line, set_line, slot_fields, slot_kind, slot_rest, slot_value, slot_value_in, slot_value_of, string_index_line, string_line, trait_fields, trait_line, trait_metadata_line, trait_rest, uint_line, value_index, version_line}
+use Rattle.abc_text_lines.specs.Kinds.{multiname_kind_operand, multiname_word, multiname_words, space_kind, space_word, space_words, trait_kind_operand, trait_word, trait_words, value_kind_operand, value_word, value_words}
+use Rattle.abc_text_lines.specs.Lineforms.{debug_in, first_operand, kind_or, one_of, pair_in, second_of, signed_in, slot_parts, switch_in, two_of, type_parts, TraitHead, one_operand_alone, body_line, operands_by_form, catch_line, double_line, entry_line, implements_line, instance_line, instruction_fields, instruction_operands, int_line, kind_in, method_index_line, method_line, multiname_operands, multiname_rest, name_line, namespace_line, number_line, opcode_of, option_line, option_rest, pair_fields, param_line, protected_line, set_line, slot_fields, slot_kind_operand, slot_rest, slot_value_operand, slot_value_in, slot_value_of_parts, string_index_line, string_line, trait_operands, trait_line, trait_metadata_line, trait_rest, uint_line, value_index, version_line}
 
 -- ---- operands
 
-u30-is : IsOperand u30
+u30-is : IsOperand u30_operand
 u30-is = number_below-is (2 ^ 30)
 
 index_upto-is : (size : ℕ) → IsOperand (index_upto size)
-index_upto-is size = checked-is _ reasons.Index u30 u30-is
+index_upto-is size = checked-is _ reasons.Index u30_operand u30-is
 
 entry_upto-is : (size : ℕ) → IsOperand (entry_upto size)
-entry_upto-is size = checked-is _ reasons.Index u30 u30-is
+entry_upto-is size = checked-is _ reasons.Index u30_operand u30-is
 
-index_below-is : (size : ℕ) → IsOperand (index_below size)
-index_below-is size = checked-is _ reasons.Index u30 u30-is
+index_below-is : (size : ℕ) → IsOperand (index_operand_below size)
+index_below-is size = checked-is _ reasons.Index u30_operand u30-is
 
 exactly-is : (n : ℕ) → IsOperand (exactly n)
 exactly-is n = checked-is _ reasons.Range any_number any_number-is
@@ -76,8 +76,8 @@ multiname_back (kinds.MultiL false) = refl
 multiname_back (kinds.MultiL true) = refl
 multiname_back kinds.TypeName = refl
 
-multiname-is : IsOperand multiname_kind
-unfolding multiname_kind
+multiname-is : IsOperand multiname_kind_operand
+unfolding multiname_kind_operand
 multiname-is = kind-is multiname_word (lookup multiname_words) kinds.TypeName (lookup_there multiname_word multiname_words (refl, (refl, (refl, (refl, (refl, (refl, (refl, (refl, (refl, (refl, (refl, tt)))))))))))) multiname_back
 
 value_back : (k : ValueKind) → lookup value_words (value_word k) ≡ Some k
@@ -97,8 +97,8 @@ value_back values.Protected = refl
 value_back values.Explicit = refl
 value_back values.StaticProtected = refl
 
-value-is : IsOperand value_kind
-unfolding value_kind
+value-is : IsOperand value_kind_operand
+unfolding value_kind_operand
 value-is = kind-is value_word (lookup value_words) values.Undefined (lookup_there value_word value_words (refl, (refl, (refl, (refl, (refl, (refl, (refl, (refl, (refl, (refl, (refl, (refl, (refl, (refl, (refl, tt)))))))))))))))) value_back
 
 trait_back : (k : TraitKind) → lookup trait_words (trait_word k) ≡ Some k
@@ -110,13 +110,13 @@ trait_back traits.Setter = refl
 trait_back traits.Class = refl
 trait_back traits.Function = refl
 
-trait-is : IsOperand trait_kind
-unfolding trait_kind
+trait-is : IsOperand trait_kind_operand
+unfolding trait_kind_operand
 trait-is = kind-is trait_word (lookup trait_words) traits.Slot (lookup_there trait_word trait_words (refl, (refl, (refl, (refl, (refl, (refl, (refl, tt)))))))) trait_back
 
 -- ---- lines of one operand
 
-pub alone-are : {A : Type 0} (p : Operand A) → IsOperand p → AreOperands (alone p)
+pub alone-are : {A : Type 0} (p : Operand A) → IsOperand p → AreOperands (one_operand_alone p)
 alone-are {A} p lp = seen-are (λ (x : A × Unit {0}). x.0) (λ (x : A). (x, tt)) (p & none) (λ x fit. refl) (then-are p none lp none-are)
 
 pub version-are : AreOperands version_line
@@ -136,11 +136,11 @@ double-are = seen-are _ _ (eight & none) (λ x fit. refl) (then-are eight none e
 
 pub string-are : AreOperands string_line
 unfolding string_line
-string-are = alone-are text text-is
+string-are = alone-are text_operand text-is
 
 pub number-are : AreOperands number_line
 unfolding number_line
-number-are = alone-are u30 u30-is
+number-are = alone-are u30_operand u30-is
 
 module _ (v : Sizes) where
   pub namespace-are : AreOperands (namespace_line v)
@@ -151,16 +151,16 @@ module _ (v : Sizes) where
   unfolding set_line
   set-are = several-are (entry_upto v.namespaces) (entry_upto-is v.namespaces)
 
-  multiname_fields-are : (kind : MultinameKind) → AreOperands (multiname_fields v kind)
+  multiname_fields-are : (kind : MultinameKind) → AreOperands (multiname_operands v kind)
   multiname_fields-are (kinds.QName attr) = seen-are (λ x. names.QName attr x.0 x.1.0) (λ m. ((two_of m).0, ((two_of m).1, tt))) (index_upto v.namespaces & (index_upto v.strings & none)) (λ x fit. refl) (then-are (index_upto v.namespaces) (index_upto v.strings & none) (index_upto-is v.namespaces) (then-are (index_upto v.strings) none (index_upto-is v.strings) none-are))
   multiname_fields-are (kinds.Rt attr) = seen-are (λ x. names.Rt attr x.0) (λ m. (one_of m, tt)) (index_upto v.strings & none) (λ x fit. refl) (then-are (index_upto v.strings) none (index_upto-is v.strings) none-are)
   multiname_fields-are (kinds.RtL attr) = seen-are (λ x. names.RtL attr) (λ m. tt) none (λ x fit. refl) none-are
   multiname_fields-are (kinds.Multi attr) = seen-are (λ x. names.Multi attr x.0 x.1.0) (λ m. ((two_of m).0, ((two_of m).1, tt))) (index_upto v.strings & (entry_upto v.sets & none)) (λ x fit. refl) (then-are (index_upto v.strings) (entry_upto v.sets & none) (index_upto-is v.strings) (then-are (entry_upto v.sets) none (entry_upto-is v.sets) none-are))
   multiname_fields-are (kinds.MultiL attr) = seen-are (λ x. names.MultiL attr x.0) (λ m. (one_of m, tt)) (entry_upto v.sets & none) (λ x fit. refl) (then-are (entry_upto v.sets) none (entry_upto-is v.sets) none-are)
-  multiname_fields-are kinds.TypeName = seen-are (λ x. names.TypeName x.0 x.1) type_of (entry_upto v.names & several (index_upto v.names)) (λ x fit. refl) (then-are (entry_upto v.names) (several (index_upto v.names)) (entry_upto-is v.names) (several-are (index_upto v.names) (index_upto-is v.names)))
+  multiname_fields-are kinds.TypeName = seen-are (λ x. names.TypeName x.0 x.1) type_parts (entry_upto v.names & several (index_upto v.names)) (λ x fit. refl) (then-are (entry_upto v.names) (several (index_upto v.names)) (entry_upto-is v.names) (several-are (index_upto v.names) (index_upto-is v.names)))
 
   -- a multiname that fits the fields of a kind is of that kind
-  multiname_of_kind : (kind : MultinameKind) (m : Multiname) → (multiname_fields v kind).fits m → kind_in m ≡ kind
+  multiname_of_kind : (kind : MultinameKind) (m : Multiname) → (multiname_operands v kind).fits m → kind_in m ≡ kind
   multiname_of_kind (kinds.QName attr) m fit = ap kind_in (sym fit.1)
   multiname_of_kind (kinds.Rt attr) m fit = ap kind_in (sym fit.1)
   multiname_of_kind (kinds.RtL attr) m fit = ap kind_in (sym fit.1)
@@ -171,9 +171,9 @@ module _ (v : Sizes) where
   pub name-are : AreOperands (name_line v)
   unfolding name_line
   name-are =
-      seen-are (λ (x : MultinameKind × Multiname). x.1) (λ (m : Multiname). (kind_in m, m)) (by multiname_kind (multiname_rest v))
+      seen-are (λ (x : MultinameKind × Multiname). x.1) (λ (m : Multiname). (kind_in m, m)) (by multiname_kind_operand (multiname_rest v))
       (λ x fit. ap (λ (k : MultinameKind). (k, x.1)) (multiname_of_kind x.0 x.1 fit.1))
-      (by-are multiname_kind (multiname_rest v) multiname-is multiname_fields-are)
+      (by-are multiname_kind_operand (multiname_rest v) multiname-is multiname_fields-are)
 
   pub method-are : AreOperands (method_line v)
   unfolding method_line
@@ -184,11 +184,11 @@ module _ (v : Sizes) where
   param-are = alone-are _ (index_upto-is v.names)
 
   value_index-is : (kind : ValueKind) → IsOperand (value_index v kind)
-  value_index-is kind = checked-is _ reasons.Index u30 u30-is
+  value_index-is kind = checked-is _ reasons.Index u30_operand u30-is
 
   pub option-are : AreOperands (option_line v)
   unfolding option_line
-  option-are = seen-are _ _ (by value_kind (option_rest v)) (λ x fit. refl) (by-are value_kind (option_rest v) value-is (λ kind. then-are (value_index v kind) none (value_index-is kind) none-are))
+  option-are = seen-are _ _ (by value_kind_operand (option_rest v)) (λ x fit. refl) (by-are value_kind_operand (option_rest v) value-is (λ kind. then-are (value_index v kind) none (value_index-is kind) none-are))
 
   pub string_index-are : AreOperands (string_index_line v)
   unfolding string_index_line
@@ -218,27 +218,27 @@ module _ (v : Sizes) where
 
   slot_rest-are : (n : ℕ) → AreOperands (slot_rest v (Some n))
   slot_rest-are zero = seen-are (λ (x : Unit {0}). let o : Option ValueKind = None in o) (λ (o : Option ValueKind). tt) none (λ x fit. refl) none-are
-  slot_rest-are (suc n) = seen-are (λ (x : ValueKind × Unit {0}). let o : Option ValueKind = Some x.0 in o) (λ o. (kind_or o, tt)) (slot_kind v (suc n) & none) (λ x fit. refl) (then-are (slot_kind v (suc n)) none (checked-is _ reasons.Index value_kind value-is) none-are)
+  slot_rest-are (suc n) = seen-are (λ (x : ValueKind × Unit {0}). let o : Option ValueKind = Some x.0 in o) (λ o. (kind_or o, tt)) (slot_kind_operand v (suc n) & none) (λ x fit. refl) (then-are (slot_kind_operand v (suc n)) none (checked-is _ reasons.Index value_kind_operand value-is) none-are)
 
-  slot_same : (n : ℕ) (o : Option ValueKind) → (slot_rest v (Some n)).fits o → slot_value_in (slot_value_of (n, o)) ≡ (n, o)
+  slot_same : (n : ℕ) (o : Option ValueKind) → (slot_rest v (Some n)).fits o → slot_value_in (slot_value_of_parts (n, o)) ≡ (n, o)
   slot_same zero None fit = refl
   slot_same zero (Some kind) fit = refl
   slot_same (suc n) None fit = absurd (let no_ : Some _ ≡ None = fit.1 in cc)
   slot_same (suc n) (Some kind) fit = refl
 
-  slot_value-are : AreOperands (slot_value v)
-  unfolding slot_value
-  slot_value-are = seen-are slot_value_of slot_value_in (by u30 (slot_rest v)) (λ x fit. slot_same x.0 x.1 fit.1) (by-are u30 (slot_rest v) u30-is slot_rest-are)
+  slot_value-are : AreOperands (slot_value_operand v)
+  unfolding slot_value_operand
+  slot_value-are = seen-are slot_value_of_parts slot_value_in (by u30_operand (slot_rest v)) (λ x fit. slot_same x.0 x.1 fit.1) (by-are u30_operand (slot_rest v) u30-is slot_rest-are)
 
   slot_fields-are : AreOperands (slot_fields v)
-  slot_fields-are = then-are u30 (index_upto v.names & slot_value v) u30-is (then-are (index_upto v.names) (slot_value v) (index_upto-is v.names) slot_value-are)
+  slot_fields-are = then-are u30_operand (index_upto v.names & slot_value_operand v) u30-is (then-are (index_upto v.names) (slot_value_operand v) (index_upto-is v.names) slot_value-are)
 
   pair_fields-are : (size : ℕ) → AreOperands (pair_fields size)
-  pair_fields-are size = then-are u30 (index_below size & none) u30-is (then-are (index_below size) none (index_below-is size) none-are)
+  pair_fields-are size = then-are u30_operand (index_operand_below size & none) u30-is (then-are (index_operand_below size) none (index_below-is size) none-are)
 
-  trait_fields-are : (kind : TraitKind) → AreOperands (trait_fields v kind)
-  trait_fields-are traits.Slot = seen-are (λ x. bodies.Slot x.0 x.1.0 x.1.1 false) slot_in (slot_fields v) (λ x fit. refl) slot_fields-are
-  trait_fields-are traits.Const = seen-are (λ x. bodies.Slot x.0 x.1.0 x.1.1 true) slot_in (slot_fields v) (λ x fit. refl) slot_fields-are
+  trait_fields-are : (kind : TraitKind) → AreOperands (trait_operands v kind)
+  trait_fields-are traits.Slot = seen-are (λ x. bodies.Slot x.0 x.1.0 x.1.1 false) slot_parts (slot_fields v) (λ x fit. refl) slot_fields-are
+  trait_fields-are traits.Const = seen-are (λ x. bodies.Slot x.0 x.1.0 x.1.1 true) slot_parts (slot_fields v) (λ x fit. refl) slot_fields-are
   trait_fields-are traits.Method = seen-are (λ x. bodies.Method x.0 x.1.0) pair_in (pair_fields v.methods) (λ x fit. refl) (pair_fields-are v.methods)
   trait_fields-are traits.Getter = seen-are (λ x. bodies.Getter x.0 x.1.0) pair_in (pair_fields v.methods) (λ x fit. refl) (pair_fields-are v.methods)
   trait_fields-are traits.Setter = seen-are (λ x. bodies.Setter x.0 x.1.0) pair_in (pair_fields v.methods) (λ x fit. refl) (pair_fields-are v.methods)
@@ -246,7 +246,7 @@ module _ (v : Sizes) where
   trait_fields-are traits.Function = seen-are (λ x. bodies.Function x.0 x.1.0) pair_in (pair_fields v.methods) (λ x fit. refl) (pair_fields-are v.methods)
 
   -- a trait that fits the fields of a kind is of that kind
-  trait_of_kind : (kind : TraitKind) (b : TraitBody) → (trait_fields v kind).fits b → trait_kind_in b ≡ kind
+  trait_of_kind : (kind : TraitKind) (b : TraitBody) → (trait_operands v kind).fits b → trait_kind_in b ≡ kind
   trait_of_kind traits.Slot b fit = ap trait_kind_in (sym fit.1)
   trait_of_kind traits.Const b fit = ap trait_kind_in (sym fit.1)
   trait_of_kind traits.Method b fit = ap trait_kind_in (sym fit.1)
@@ -256,14 +256,14 @@ module _ (v : Sizes) where
   trait_of_kind traits.Function b fit = ap trait_kind_in (sym fit.1)
 
   trait_rest-are : (kind : TraitKind) → AreOperands (trait_rest v (Some kind))
-  trait_rest-are kind = seen-are _ _ (number_below 16 & (entry_upto v.names & trait_fields v kind)) (λ x fit. refl) (then-are (number_below 16) (entry_upto v.names & trait_fields v kind) (number_below-is 16) (then-are (entry_upto v.names) (trait_fields v kind) (entry_upto-is v.names) (trait_fields-are kind)))
+  trait_rest-are kind = seen-are _ _ (number_below 16 & (entry_upto v.names & trait_operands v kind)) (λ x fit. refl) (then-are (number_below 16) (entry_upto v.names & trait_operands v kind) (number_below-is 16) (then-are (entry_upto v.names) (trait_operands v kind) (entry_upto-is v.names) (trait_fields-are kind)))
 
   pub trait-are : AreOperands (trait_line v)
   unfolding trait_line
   trait-are =
-      seen-are (λ (x : TraitKind × TraitHead). x.1) (λ (t : TraitHead). (trait_kind_in t.body, t)) (by trait_kind (trait_rest v))
+      seen-are (λ (x : TraitKind × TraitHead). x.1) (λ (t : TraitHead). (trait_kind_in t.body, t)) (by trait_kind_operand (trait_rest v))
       (λ x fit. ap (λ (k : TraitKind). (k, x.1)) (trait_of_kind x.0 x.1.body fit.1.0.1.1))
-      (by-are trait_kind (trait_rest v) trait-is trait_rest-are)
+      (by-are trait_kind_operand (trait_rest v) trait-is trait_rest-are)
 
   pub trait_metadata-are : AreOperands (trait_metadata_line v)
   unfolding trait_metadata_line
@@ -274,9 +274,9 @@ module _ (v : Sizes) where
   pub body-are : AreOperands (body_line v)
   unfolding body_line
   body-are =
-      seen-are _ _ (index_below v.methods & (u30 & (u30 & (u30 & (u30 & none))))) (λ x fit. refl)
-      (then-are (index_below v.methods) (u30 & (u30 & (u30 & (u30 & none)))) (index_below-is v.methods)
-      (then-are u30 (u30 & (u30 & (u30 & none))) u30-is (then-are u30 (u30 & (u30 & none)) u30-is (then-are u30 (u30 & none) u30-is (then-are u30 none u30-is none-are)))))
+      seen-are _ _ (index_operand_below v.methods & (u30_operand & (u30_operand & (u30_operand & (u30_operand & none))))) (λ x fit. refl)
+      (then-are (index_operand_below v.methods) (u30_operand & (u30_operand & (u30_operand & (u30_operand & none)))) (index_below-is v.methods)
+      (then-are u30_operand (u30_operand & (u30_operand & (u30_operand & none))) u30-is (then-are u30_operand (u30_operand & (u30_operand & none)) u30-is (then-are u30_operand (u30_operand & none) u30-is (then-are u30_operand none u30-is none-are)))))
 
   pub catch-are : AreOperands (catch_line v)
   unfolding catch_line
@@ -291,23 +291,23 @@ module _ (v : Sizes) where
 
 instruction_fields-are : (op : ℕ) (form : Form) → AreOperands (instruction_fields op form)
 instruction_fields-are op forms.Plain = seen-are (λ x. instrs.Plain op) (λ i. tt) none (λ x fit. refl) none-are
-instruction_fields-are op forms.One = seen-are (λ x. instrs.One op x.0) (λ i. (first_of i, tt)) (u30 & none) (λ x fit. refl) (then-are u30 none u30-is none-are)
-instruction_fields-are op forms.Two = seen-are (λ x. instrs.Two op x.0 x.1.0) (λ i. (first_of i, (second_of i, tt))) (u30 & (u30 & none)) (λ x fit. refl) (then-are u30 (u30 & none) u30-is (then-are u30 none u30-is none-are))
-instruction_fields-are op forms.Branch = seen-are (λ x. instrs.Branch op x.0) (λ i. (first_of i, tt)) (target & none) (λ x fit. refl) (then-are target none target-is none-are)
+instruction_fields-are op forms.One = seen-are (λ x. instrs.One op x.0) (λ i. (first_operand i, tt)) (u30_operand & none) (λ x fit. refl) (then-are u30_operand none u30-is none-are)
+instruction_fields-are op forms.Two = seen-are (λ x. instrs.Two op x.0 x.1.0) (λ i. (first_operand i, (second_of i, tt))) (u30_operand & (u30_operand & none)) (λ x fit. refl) (then-are u30_operand (u30_operand & none) u30-is (then-are u30_operand none u30-is none-are))
+instruction_fields-are op forms.Branch = seen-are (λ x. instrs.Branch op x.0) (λ i. (first_operand i, tt)) (target & none) (λ x fit. refl) (then-are target none target-is none-are)
 instruction_fields-are op forms.Switch = seen-are (λ x. instrs.Switch x.0 (x.1.0 ∷ x.1.1)) switch_in (target & (target & several target)) (λ x fit. refl) (then-are target (target & several target) target-is (then-are target (several target) target-is (several-are target target-is)))
 instruction_fields-are op forms.Byte = seen-are (λ x. instrs.Byte x.0) (λ i. (signed_in i, tt)) (signed_between (negsuc 127) (pos 127) & none) (λ x fit. refl) (then-are (signed_between (negsuc 127) (pos 127)) none (signed-is (negsuc 127) (pos 127)) none-are)
 instruction_fields-are op forms.Short = seen-are (λ x. instrs.Short x.0) (λ i. (signed_in i, tt)) (signed_between (negsuc 32767) (pos 32767) & none) (λ x fit. refl) (then-are (signed_between (negsuc 32767) (pos 32767)) none (signed-is (negsuc 32767) (pos 32767)) none-are)
-instruction_fields-are op forms.ScopeObject = seen-are (λ x. instrs.ScopeObject x.0) (λ i. (first_of i, tt)) (number_below 256 & none) (λ x fit. refl) (then-are (number_below 256) none (number_below-is 256) none-are)
+instruction_fields-are op forms.ScopeObject = seen-are (λ x. instrs.ScopeObject x.0) (λ i. (first_operand i, tt)) (number_below 256 & none) (λ x fit. refl) (then-are (number_below 256) none (number_below-is 256) none-are)
 instruction_fields-are op forms.Debug =
-    seen-are (λ x. instrs.Debug x.0 x.1.0 x.1.1.0 x.1.1.1.0) debug_in (number_below 256 & (u30 & (number_below 256 & (u30 & none)))) (λ x fit. refl)
-    (then-are (number_below 256) (u30 & (number_below 256 & (u30 & none))) (number_below-is 256) (then-are u30 (number_below 256 & (u30 & none)) u30-is (then-are (number_below 256) (u30 & none) (number_below-is 256) (then-are u30 none u30-is none-are))))
+    seen-are (λ x. instrs.Debug x.0 x.1.0 x.1.1.0 x.1.1.1.0) debug_in (number_below 256 & (u30_operand & (number_below 256 & (u30_operand & none)))) (λ x fit. refl)
+    (then-are (number_below 256) (u30_operand & (number_below 256 & (u30_operand & none))) (number_below-is 256) (then-are u30_operand (number_below 256 & (u30_operand & none)) u30-is (then-are (number_below 256) (u30_operand & none) (number_below-is 256) (then-are u30_operand none u30-is none-are))))
 
-by_form-are : (op : ℕ) (form : Option Form) → AreOperands (by_form op form)
+by_form-are : (op : ℕ) (form : Option Form) → AreOperands (operands_by_form op form)
 by_form-are op (Some form) = instruction_fields-are op form
 by_form-are op None = record { found = λ labels tokens counts e. absurd cc; again = λ labels tokens i is fit. absurd fit }
 
-pub instruction-are : (op : ℕ) → AreOperands (instruction_line op)
-unfolding instruction_line
+pub instruction-are : (op : ℕ) → AreOperands (instruction_operands op)
+unfolding instruction_operands
 instruction-are op = by_form-are op (form_at op)
 
 -- ---- the opcode of an instruction that fits a form
@@ -315,13 +315,13 @@ instruction-are op = by_form-are op (form_at op)
 some_form : (f g : Form) → (let some : Form → Option Form = λ x. Some x in some f ≡ some g) → f ≡ g
 some_form f g e = cc
 
-known_form : (op : ℕ) (form : Form) (name : Option (List ℕ)) → name_in named op ≡ name → form_at op ≡ Some form → form_of op ≡ form
+known_form : (op : ℕ) (form : Form) (name : Option (List ℕ)) → name_in names_of_opcodes op ≡ name → form_at op ≡ Some form → form_of op ≡ form
 unfolding form_at info_at
 known_form op form (Some name) h e = some_form (form_of op) form (rw h at e)
 known_form op form None h e = absurd (let none_ : None ≡ Some form = rw h at e in cc)
 
 form_is : (op : ℕ) (form : Form) → form_at op ≡ Some form → form_of op ≡ form
-form_is op form e = known_form op form (name_in named op) refl e
+form_is op form e = known_form op form (name_in names_of_opcodes op) refl e
 
 -- the forms that one opcode has, as the definition tries them one after the other
 some_opcode : (op : ℕ) (form : Form) → form_of op ≡ form → ¬ (form ≡ forms.One) → ¬ (form ≡ forms.Two) → ¬ (form ≡ forms.Branch) → ¬ (form ≡ forms.Plain) → ((form ≡ forms.Switch) × (op ≡ 0x1b)) ⊎ (((form ≡ forms.Byte) × (op ≡ 0x24)) ⊎ (((form ≡ forms.Short) × (op ≡ 0x25)) ⊎ (((form ≡ forms.ScopeObject) × (op ≡ 0x65)) ⊎ ((form ≡ forms.Debug) × (op ≡ 0xef)))))
@@ -387,10 +387,10 @@ opcode_at op forms.Short i e fit = ap opcode_of (sym fit.1) ∙ single_is op for
 opcode_at op forms.ScopeObject i e fit = ap opcode_of (sym fit.1) ∙ single_is op forms.ScopeObject e (λ h. cc) (λ h. cc) (λ h. cc) (λ h. cc)
 opcode_at op forms.Debug i e fit = ap opcode_of (sym fit.1) ∙ single_is op forms.Debug e (λ h. cc) (λ h. cc) (λ h. cc) (λ h. cc)
 
-opcode_in : (op : ℕ) (form : Option Form) (i : Instr) → form_at op ≡ form → (by_form op form).fits i → opcode_of i ≡ op
+opcode_in : (op : ℕ) (form : Option Form) (i : Instr) → form_at op ≡ form → (operands_by_form op form).fits i → opcode_of i ≡ op
 opcode_in op (Some form) i e fit = opcode_at op form i e fit
 opcode_in op None i e fit = absurd fit
 
-pub opcode_is : (op : ℕ) (i : Instr) → (instruction_line op).fits i → opcode_of i ≡ op
-unfolding instruction_line
+pub opcode_is : (op : ℕ) (i : Instr) → (instruction_operands op).fits i → opcode_of i ≡ op
+unfolding instruction_operands
 opcode_is op i fit = opcode_in op (form_at op) i refl fit

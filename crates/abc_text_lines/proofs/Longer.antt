@@ -14,8 +14,8 @@ use Rattle.abc_file_types.specs.CodeBytes.{code_len}
 use Rattle.abc_text_lines.specs.Words.{place_of}
 use Rattle.abc_text_lines.specs.Lines.{Row}
 use Rattle.abc_text_lines.specs.Rows.{Fault, Rows}
-use Rattle.abc_text_lines.specs.Law.{Among, IsFree, Lawful, Match}
-use Rattle.abc_text_lines.specs.Wordlines.{faults_of, if_none, plain_faults, shows_operands}
+use Rattle.abc_text_lines.specs.Law.{Among, IsLineFree, Lawful, Match}
+use Rattle.abc_text_lines.specs.Wordlines.{faults_by_rules, if_none, plain_faults, shows_operands}
 use Rattle.abc_text_lines.specs.File.{body_below, ends_body, extra, faults, long_code, plain_rules, rules, traits}
 use Rattle.abc_text_lines.specs.LongCode.{HasLongCode, IsBodyNext, TellsLongCode}
 use Rattle.abc_text_lines.proofs.Bools.{if_is, and_true, split_bool}
@@ -37,9 +37,9 @@ module _ (v : Sizes) (instances : ℕ) where
 
   -- what stands below a body, of which at most n lines are read
   abbrev below : ℕ → Rows BelowBody
-  below n = body_below v instances (faults_of (plain_rules v instances)) n
+  below n = body_below v instances (faults_by_rules (plain_rules v instances)) n
 
-  lawful : (n : ℕ) → Lawful (Unit {0}) shows_operands (faults_of (plain_rules v instances)) n (below n)
+  lawful : (n : ℕ) → Lawful (Unit {0}) shows_operands (faults_by_rules (plain_rules v instances)) n (below n)
   lawful n = body_below-lawful v instances (Unit {0}) (plain_rules v instances) (λ w labels tokens. refl) (λ row after w. refl) (λ row after other. refl) n
 
   next_body : (rest : List Row) → ends_body v instances rest ≡ true → IsBodyNext rest
@@ -54,7 +54,7 @@ module _ (v : Sizes) (instances : ℕ) where
   unfolding body_below traits
   no_body_in n w h e = apart (22 ∷ []) (below n).has refl 22 (inl refl) (subst (λ (x : ℕ). Among x (below n).has) e h)
 
-  free : (n : ℕ) (rest : List Row) → IsBodyNext rest → IsFree (below n) rest
+  free : (n : ℕ) (rest : List Row) → IsBodyNext rest → IsLineFree (below n) rest
   free n [] h place next among = absurd next
   free n (row ∷ rest) h place next among = no_body_in n place among (sym next ∙ ap place_of h)
 

@@ -6,9 +6,9 @@ use Rattle.abc_text_lines.specs.declared.word.Word.{Word}
 use Rattle.abc_text_lines.specs.declared.word.Word.TheVariants as words
 use Rattle.abc_text_lines.specs.Reasons.{least}
 use Rattle.abc_text_lines.specs.Words.{place_of}
-use Rattle.abc_text_lines.specs.Lines.{Row, places, places_shown}
-use Rattle.abc_text_lines.specs.Rows.{Fault, Faults, Rows, Head, both, image, many, nothing, unless, headed, pair_reads, items_reads, items_shown, is_label}
-use Rattle.abc_text_lines.specs.Law.{Among, IsFree, Keeps, Lawful, Match, Next, Refused, Shows, Taken}
+use Rattle.abc_text_lines.specs.Lines.{Row, line_places, places_shown}
+use Rattle.abc_text_lines.specs.Rows.{Fault, Faults, Rows, Head, both_rows, image_rows, many, empty_rows, unless, item_first, pair_reads, items_reads, items_shown, is_label}
+use Rattle.abc_text_lines.specs.Law.{Among, IsLineFree, LineKeeps, Lawful, Match, Next, Refused, Shows, Taken}
 use Rattle.abc_text_lines.proofs.Bools.{if_is, split_bool}
 use Rattle.abc_text_lines.proofs.Pieces.{Among-cases, Match-split, Next-cases, bind_err, bind_ok, fine, ok_is, shown-append, unless_err, unless_ok}
 use Rattle.abc_text_lines.proofs.Exact.{both-lawful, inside_of_two}
@@ -17,17 +17,17 @@ pub none_inside : (before : List ℕ) (w : ℕ) (more : List ℕ) → [] ≡ bef
 none_inside [] w more e = cc
 none_inside (v ∷ before) w more e = cc
 
-pub nothing-lawful : (given : Type 0) (same : Shows) (faults : Faults) (n : ℕ) → Lawful given same faults n nothing
+pub nothing-lawful : (given : Type 0) (same : Shows) (faults : Faults) (n : ℕ) → Lawful given same faults n empty_rows
 nothing-lawful given same faults n = record {
   taken = λ rows x rest le e.
       let made : Unit {0} × List Row = (tt, rows) in
-      subst (λ (z : Unit {0} × List Row). Taken given same faults nothing rows z.0 z.1) (ok_is made (x, rest) e)
+      subst (λ (z : Unit {0} × List Row). Taken given same faults empty_rows rows z.0 z.1) (ok_is made (x, rest) e)
       (record { front = []; parts = refl; shown = refl; clean = tt; fits = λ all free. tt; like = tt; alike = refl; stops = λ y w more s h. absurd cc });
   refused = λ rows f le e. absurd cc;
   again = λ x front rest le fit match free. ap (λ (l : List Row). fine (x, l ++ rest)) match;
   some = tt;
   first = λ x w more e. absurd cc;
-  begins = λ x front w more match e. let none : places front ≡ [] = ap places match in absurd cc;
+  begins = λ x front w more match e. let none : line_places front ≡ [] = ap line_places match in absurd cc;
   inside = λ x before w more e. absurd (none_inside before w more e);
 }
 
@@ -46,13 +46,13 @@ weaken given same faults n m p le lp = record {
 
 -- ---- other values
 
-pub image-lawful : {A B : Type 0} (given : Type 0) (same : Shows) (faults : Faults) (n : ℕ) (f : A → B) (g : B → A) (p : Rows A) → ((x : A) → g (f x) ≡ x) → ((y : B) → f (g y) ≡ y) → Lawful given same faults n p → Lawful given same faults n (image f g p)
+pub image-lawful : {A B : Type 0} (given : Type 0) (same : Shows) (faults : Faults) (n : ℕ) (f : A → B) (g : B → A) (p : Rows A) → ((x : A) → g (f x) ≡ x) → ((y : B) → f (g y) ≡ y) → Lawful given same faults n p → Lawful given same faults n (image_rows f g p)
 image-lawful {A} {B} given same faults n f g p back forth lp = record {
   taken = λ rows y rest le e.
       let a = bind_ok (p.reads rows) (λ x. Ok (f x.0, x.1)) (y, rest) e in
       let t = lp.taken rows a.0.0 a.0.1 le a.1 in
       let made : B × List Row = (f a.0.0, a.0.1) in
-      subst (λ (z : B × List Row). Taken given same faults (image f g p) rows z.0 z.1) (ok_is made (y, rest) a.2)
+      subst (λ (z : B × List Row). Taken given same faults (image_rows f g p) rows z.0 z.1) (ok_is made (y, rest) a.2)
       (record {
         front = t.front;
         parts = t.parts;
@@ -94,7 +94,7 @@ eq_true a b e = grind (arith, nat_tests)
 pub eq_refl : (a b : ℕ) → a ≡ b → nat_eq a b ≡ true
 eq_refl a b e = grind (arith, nat_tests)
 
-module _ {H B : Type 0} (given : Type 0) (same : Shows) (faults : Faults) (head : Head H B) (below : Rows B) (keeps : Keeps given same faults head below) (ordinary : ¬ (head.place ≡ 23)) (apart : Among head.place below.has → ⊥) (inside : (x : B) (before : List ℕ) (w : ℕ) (more : List ℕ) → places_shown (below.shows x) ≡ before ++ w ∷ more → Among w below.has) where
+module _ {H B : Type 0} (given : Type 0) (same : Shows) (faults : Faults) (head : Head H B) (below : Rows B) (keeps : LineKeeps given same faults head below) (ordinary : ¬ (head.place ≡ 23)) (apart : Among head.place below.has → ⊥) (inside : (x : B) (before : List ℕ) (w : ℕ) (more : List ℕ) → places_shown (below.shows x) ≡ before ++ w ∷ more → Among w below.has) where
   abbrev made_of : List (H × B) → List Row → Result (List (H × B) × List Row) Fault
   made_of x rest = Ok (x, rest)
 
@@ -105,15 +105,15 @@ module _ {H B : Type 0} (given : Type 0) (same : Shows) (faults : Faults) (head 
   many_first [] w more e = absurd cc
   many_first (x ∷ xs) w more e = let h : place_of (head.word x.0) ≡ w = cc in inl (sym h ∙ keeps.at x.0)
 
-  many_begins : (x : List (H × B)) (front : List Row) (w : ℕ) (more : List ℕ) → Match same front (items_shown head below x) → places front ≡ w ∷ more → Among w (head.place ∷ [])
-  many_begins [] front w more match e = let none : places front ≡ [] = ap places match in absurd cc
+  many_begins : (x : List (H × B)) (front : List Row) (w : ℕ) (more : List ℕ) → Match same front (items_shown head below x) → line_places front ≡ w ∷ more → Among w (head.place ∷ [])
+  many_begins [] front w more match e = let none : line_places front ≡ [] = ap line_places match in absurd cc
   many_begins (x ∷ xs) front w more match e =
-      let all : places front ≡ place_of match.0.word ∷ places match.1 = ap places match.2 in
+      let all : line_places front ≡ place_of match.0.word ∷ line_places match.1 = ap line_places match.2 in
       let h : place_of match.0.word ≡ w = cc in
       inl (sym h ∙ ap place_of match.3.word ∙ keeps.at x.0)
 
   -- where the items after one come next, the lines below it cannot go on
-  below_free : (n : ℕ) (xs : List (H × B)) (b rest : List Row) → Match same b (items_shown head below xs) → IsFree (many faults head below n) rest → IsFree below (b ++ rest)
+  below_free : (n : ℕ) (xs : List (H × B)) (b rest : List Row) → Match same b (items_shown head below xs) → IsLineFree (many faults head below n) rest → IsLineFree below (b ++ rest)
   below_free n xs b rest match free w h k =
       elim (Next-cases b rest w h) [
         | inl m ↦ elim (many_begins xs b w m.0 match m.1) [ inl e ↦ apart (subst (λ (v : ℕ). Among v below.has) e k) | inr other ↦ absurd other ]
@@ -142,7 +142,7 @@ module _ {H B : Type 0} (given : Type 0) (same : Shows) (faults : Faults) (head 
         | inr other ↦ absurd other
       ]
 
-  none_again : (n : ℕ) (rest : List Row) → IsFree (many faults head below n) rest → items_reads faults head below (suc n) rest ≡ Ok ([], rest)
+  none_again : (n : ℕ) (rest : List Row) → IsLineFree (many faults head below n) rest → items_reads faults head below (suc n) rest ≡ Ok ([], rest)
   none_again n [] free = refl
   none_again n (row ∷ rest) free =
       elim (split_bool (nat_eq (place_of row.word) head.place)) [
@@ -157,7 +157,7 @@ module _ {H B : Type 0} (given : Type 0) (same : Shows) (faults : Faults) (head 
       let tail : places_shown (below.shows x.1 ++ items_shown head below xs) ≡ before ++ w ∷ more = cc in
       both_has w (inside_of_two (places_shown (below.shows x.1)) (places_shown (items_shown head below xs)) before w more below.has (head.place ∷ below.has) (λ a m. inside x.1 a w m) (λ a m. many_inside xs a w m) (sym (shown-append (below.shows x.1) (items_shown head below xs)) ∙ tail))
 
-  item_lawful : (n : ℕ) → Lawful given same faults n below → Lawful given same faults n (many faults head below n) → Lawful given same faults n (both below (many faults head below n))
+  item_lawful : (n : ℕ) → Lawful given same faults n below → Lawful given same faults n (many faults head below n) → Lawful given same faults n (both_rows below (many faults head below n))
   item_lawful n lb lm = both-lawful given same faults n below (many faults head below n) lb lm (λ w s k. elim s [ inl e ↦ apart (subst (λ (v : ℕ). Among v below.has) e k) | inr other ↦ absurd other ])
 
   -- a first line that is not of the word
@@ -167,7 +167,7 @@ module _ {H B : Type 0} (given : Type 0) (same : Shows) (faults : Faults) (head 
       subst (λ (z : List (H × B) × List Row). Taken given same faults (many faults head below n) (row ∷ rows) z.0 z.1) (ok_is made (x, rest) e)
       (record { front = []; parts = refl; shown = refl; clean = tt; fits = λ all free. tt; like = []; alike = refl; stops = λ y w more s h. other_stops row differs y w more s h })
 
-  one_taken : (n : ℕ) → Lawful given same faults n (both below (many faults head below n)) → (row : Row) (rows : List Row) (x : List (H × B)) (rest : List Row) → length rows ≤ n → place_of row.word ≡ head.place → (least (faults row rows) ≡ None) × ((headed (head.value row) (pair_reads below.reads (items_reads faults head below n) rows)) ≡ Ok (x, rest)) → Taken given same faults (many faults head below (suc n)) (row ∷ rows) x rest
+  one_taken : (n : ℕ) → Lawful given same faults n (both_rows below (many faults head below n)) → (row : Row) (rows : List Row) (x : List (H × B)) (rest : List Row) → length rows ≤ n → place_of row.word ≡ head.place → (least (faults row rows) ≡ None) × ((item_first (head.value row) (pair_reads below.reads (items_reads faults head below n) rows)) ≡ Ok (x, rest)) → Taken given same faults (many faults head below (suc n)) (row ∷ rows) x rest
   one_taken n lt row rows x rest le here u =
       let b = bind_ok (pair_reads below.reads (items_reads faults head below n) rows) (λ x. Ok ((head.value row, x.0.0) ∷ x.0.1, x.1)) (x, rest) u.1 in
       let z = b.0 in
@@ -187,11 +187,11 @@ module _ {H B : Type 0} (given : Type 0) (same : Shows) (faults : Faults) (head 
             let inner = t.fits all (λ w h a. free w h (both_has w a)) in
             (keeps.fits all row m.0 (m.1 ++ z.1) z.0.0 here plain (subst (λ (l : List Row). least (faults row l) ≡ None) regroup clean) m.3 inner.0 (below_free n z.0.1 m.1 z.1 m.4 free), inner.0, inner.1);
         like = (head.value row, t.like.0) ∷ t.like.1;
-        alike = same_cons (place_of (head.word (head.value row))) (place_of row.word) (places_shown (below.shows t.like.0 ++ items_shown head below t.like.1)) (places t.front) (keeps.at (head.value row) ∙ sym here) t.alike;
-        stops = λ y w more s h. one_stops y (place_of row.word) (places t.front) w more (λ y1 s1. t.stops y1 w more s1 h) s;
+        alike = same_cons (place_of (head.word (head.value row))) (place_of row.word) (places_shown (below.shows t.like.0 ++ items_shown head below t.like.1)) (line_places t.front) (keeps.at (head.value row) ∙ sym here) t.alike;
+        stops = λ y w more s h. one_stops y (place_of row.word) (line_places t.front) w more (λ y1 s1. t.stops y1 w more s1 h) s;
       })
 
-  one_refused : (n : ℕ) → Lawful given same faults n (both below (many faults head below n)) → (row : Row) (rows : List Row) (f : Fault) → length rows ≤ n → place_of row.word ≡ head.place → ((least (faults row rows) ≡ Some f.reason) × (f.line ≡ row.number)) ⊎ ((least (faults row rows) ≡ None) × ((headed (head.value row) (pair_reads below.reads (items_reads faults head below n) rows)) ≡ Err f)) → Refused faults (many faults head below (suc n)) (row ∷ rows) f
+  one_refused : (n : ℕ) → Lawful given same faults n (both_rows below (many faults head below n)) → (row : Row) (rows : List Row) (f : Fault) → length rows ≤ n → place_of row.word ≡ head.place → ((least (faults row rows) ≡ Some f.reason) × (f.line ≡ row.number)) ⊎ ((least (faults row rows) ≡ None) × ((item_first (head.value row) (pair_reads below.reads (items_reads faults head below n) rows)) ≡ Err f)) → Refused faults (many faults head below (suc n)) (row ∷ rows) f
   one_refused n lt row rows f le here u =
       elim u [
         | inl now ↦ record {
@@ -219,32 +219,32 @@ module _ {H B : Type 0} (given : Type 0) (same : Shows) (faults : Faults) (head 
                 line = r.line;
                 like = (head.value row, r.like.0) ∷ r.like.1;
                 more = r.more;
-                alike = same_cons (place_of (head.word (head.value row))) (place_of row.word) (places_shown (below.shows r.like.0 ++ items_shown head below r.like.1)) (places r.front ++ place_of r.row.word ∷ r.more) (keeps.at (head.value row) ∙ sym here) r.alike;
+                alike = same_cons (place_of (head.word (head.value row))) (place_of row.word) (places_shown (below.shows r.like.0 ++ items_shown head below r.like.1)) (line_places r.front ++ place_of r.row.word ∷ r.more) (keeps.at (head.value row) ∙ sym here) r.alike;
               }
           | inr c ↦ absurd cc
         ]
       ]
 
-  many_taken : (n : ℕ) → Lawful given same faults n (both below (many faults head below n)) → (rows : List Row) (x : List (H × B)) (rest : List Row) → length rows ≤ suc n → items_reads faults head below (suc n) rows ≡ Ok (x, rest) → Taken given same faults (many faults head below (suc n)) rows x rest
+  many_taken : (n : ℕ) → Lawful given same faults n (both_rows below (many faults head below n)) → (rows : List Row) (x : List (H × B)) (rest : List Row) → length rows ≤ suc n → items_reads faults head below (suc n) rows ≡ Ok (x, rest) → Taken given same faults (many faults head below (suc n)) rows x rest
   many_taken n lt [] x rest le e =
       let made : List (H × B) × List Row = ([], []) in
       subst (λ (z : List (H × B) × List Row). Taken given same faults (many faults head below (suc n)) [] z.0 z.1) (ok_is made (x, rest) e)
       (record { front = []; parts = refl; shown = refl; clean = tt; fits = λ all free. tt; like = []; alike = refl; stops = λ y w more s h. absurd h })
   many_taken n lt (row ∷ rows) x rest le e =
-      elim (if_is (nat_eq (place_of row.word) head.place) (unless (least (faults row rows)) row.number (headed (head.value row) (pair_reads below.reads (items_reads faults head below n) rows))) (Ok ([], row ∷ rows)) (Ok (x, rest)) e) [
+      elim (if_is (nat_eq (place_of row.word) head.place) (unless (least (faults row rows)) row.number (item_first (head.value row) (pair_reads below.reads (items_reads faults head below n) rows))) (Ok ([], row ∷ rows)) (Ok (x, rest)) e) [
         | inr c ↦ other_taken (suc n) row rows x rest c.0 c.1
-        | inl c ↦ one_taken n lt row rows x rest (omega arith) (eq_true (place_of row.word) head.place c.0) (unless_ok (least (faults row rows)) row.number (headed (head.value row) (pair_reads below.reads (items_reads faults head below n) rows)) (x, rest) c.1)
+        | inl c ↦ one_taken n lt row rows x rest (omega arith) (eq_true (place_of row.word) head.place c.0) (unless_ok (least (faults row rows)) row.number (item_first (head.value row) (pair_reads below.reads (items_reads faults head below n) rows)) (x, rest) c.1)
       ]
 
-  many_refused : (n : ℕ) → Lawful given same faults n (both below (many faults head below n)) → (rows : List Row) (f : Fault) → length rows ≤ suc n → items_reads faults head below (suc n) rows ≡ Err f → Refused faults (many faults head below (suc n)) rows f
+  many_refused : (n : ℕ) → Lawful given same faults n (both_rows below (many faults head below n)) → (rows : List Row) (f : Fault) → length rows ≤ suc n → items_reads faults head below (suc n) rows ≡ Err f → Refused faults (many faults head below (suc n)) rows f
   many_refused n lt [] f le e = absurd cc
   many_refused n lt (row ∷ rows) f le e =
-      elim (if_is (nat_eq (place_of row.word) head.place) (unless (least (faults row rows)) row.number (headed (head.value row) (pair_reads below.reads (items_reads faults head below n) rows))) (Ok ([], row ∷ rows)) (Err f) e) [
+      elim (if_is (nat_eq (place_of row.word) head.place) (unless (least (faults row rows)) row.number (item_first (head.value row) (pair_reads below.reads (items_reads faults head below n) rows))) (Ok ([], row ∷ rows)) (Err f) e) [
         | inr c ↦ absurd cc
-        | inl c ↦ one_refused n lt row rows f (omega arith) (eq_true (place_of row.word) head.place c.0) (unless_err (least (faults row rows)) row.number (headed (head.value row) (pair_reads below.reads (items_reads faults head below n) rows)) f c.1)
+        | inl c ↦ one_refused n lt row rows f (omega arith) (eq_true (place_of row.word) head.place c.0) (unless_err (least (faults row rows)) row.number (item_first (head.value row) (pair_reads below.reads (items_reads faults head below n) rows)) f c.1)
       ]
 
-  many_again : (n : ℕ) → Lawful given same faults n (both below (many faults head below n)) → (x : List (H × B)) (front rest : List Row) → length (front ++ rest) ≤ suc n → (many faults head below n).fits x → Match same front (items_shown head below x) → IsFree (many faults head below n) rest → items_reads faults head below (suc n) (front ++ rest) ≡ Ok (x, rest)
+  many_again : (n : ℕ) → Lawful given same faults n (both_rows below (many faults head below n)) → (x : List (H × B)) (front rest : List Row) → length (front ++ rest) ≤ suc n → (many faults head below n).fits x → Match same front (items_shown head below x) → IsLineFree (many faults head below n) rest → items_reads faults head below (suc n) (front ++ rest) ≡ Ok (x, rest)
   many_again n lt [] front rest le fit match free = rw match (none_again n rest free)
   many_again n lt (x ∷ xs) front rest le fit match free =
       let row = match.0 in

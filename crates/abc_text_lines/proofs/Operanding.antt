@@ -8,7 +8,7 @@ use Rattle.abc_text_lines.specs.Tokens.{Token, Bare, Quoted, hex_pair, is_hex}
 use Rattle.abc_text_lines.proofs.Bools.{and_true, if_is, split_bool}
 use Rattle.abc_text_lines.proofs.Scans.{eq_is}
 use Rattle.abc_text_lines.specs.Lines.{Label, Number, Signed, Text, Eight, Kind, Target}
-use Rattle.abc_text_lines.specs.Operands.{AreHex, AreOperands, AreTokens, EachFits, IsOperand, IsSigned, IsToken, Operand, Operands, any_number, any_signed, by, by_counts, by_faults, by_value, checked, eight, eight_in, eight_of, found_kind, found_place, hex_bytes, is_digit, is_name, is_numeral, kind, kind_of, more_hex, negative, none, number_of, numeral, place_of_label, reasons_in, seen, several, several_faults, several_items, several_value, signed_of, signed_token, target, target_of, tested, text, text_of, unseen, value_in, value_or}
+use Rattle.abc_text_lines.specs.Operands.{AreHex, AreOperands, AreTokens, EachFits, IsOperand, IsSigned, IsToken, Operand, Operands, any_number, any_signed, by, by_counts, by_faults, by_value, operand_with_test, eight, eight_in, eight_of, found_kind, found_place, hex_bytes, is_digit, is_name, is_numeral, kind, kind_operand, more_hex, negative, none, number_of_digits, numeral, place_of_label, reasons_in, map_operands, several, several_faults, several_items, several_value, signed_of, signed_token, target, target_operand, test_result, text_operand, text_of_token, unseen, value_if_any, value_or}
 
 abbrev yes : {A : Type 0} → A → Result A AsmReason
 yes x = Ok x
@@ -18,7 +18,7 @@ yes_is x y e = cc
 
 -- ---- numbers
 
-tested_ok : {A : Type 0} (test : A → Bool) (reason : AsmReason) (r : Result A AsmReason) (x : A) → tested test reason r ≡ Ok x → (r ≡ Ok x) × (test x ≡ true)
+tested_ok : {A : Type 0} (test : A → Bool) (reason : AsmReason) (r : Result A AsmReason) (x : A) → test_result test reason r ≡ Ok x → (r ≡ Ok x) × (test x ≡ true)
 tested_ok {A} test reason (Ok y) x e =
     elim (if_is (test y) (yes y) (Err reason) (Ok x) e) [
       | inl c ↦ let same = yes_is y x c.1 in (c.1, subst (λ (z : A). test z ≡ true) same c.0)
@@ -26,14 +26,14 @@ tested_ok {A} test reason (Ok y) x e =
     ]
 tested_ok test reason (Err r) x e = absurd cc
 
-pub checked-is : {A : Type 0} (test : A → Bool) (reason : AsmReason) (p : Operand A) → IsOperand p → IsOperand (checked test reason p)
+pub checked-is : {A : Type 0} (test : A → Bool) (reason : AsmReason) (p : Operand A) → IsOperand p → IsOperand (operand_with_test test reason p)
 checked-is test reason p lp = record {
   found = λ labels token x e. let t = tested_ok test reason (p.reads labels token) x e in let f = lp.found labels token x t.0 in (f.0, (f.1, t.1));
   again = λ labels token x is fit. rw (lp.again labels token x is fit.0) (ap (λ (b : Bool). cond b (yes x) (Err reason)) fit.1);
 }
 
 numeral_ok : (token : Token) (labels : List Label) (n : ℕ) → numeral token ≡ Ok n → IsToken labels token (Number n)
-numeral_ok (Bare word) labels n e = elim (if_is (is_numeral word) (yes (number_of word)) (Err reasons.Number) (Ok n) e) [ inl c ↦ (c.0, yes_is (number_of word) n c.1) | inr c ↦ absurd cc ]
+numeral_ok (Bare word) labels n e = elim (if_is (is_numeral word) (yes (number_of_digits word)) (Err reasons.Number) (Ok n) e) [ inl c ↦ (c.0, yes_is (number_of_digits word) n c.1) | inr c ↦ absurd cc ]
 numeral_ok (Quoted bytes) labels n e = absurd cc
 
 numeral_again : (token : Token) (labels : List Label) (n : ℕ) → IsToken labels token (Number n) → numeral token ≡ Ok n
@@ -49,20 +49,20 @@ number_below-is bound = checked-is (λ n. nat_lt n bound) reasons.Range any_numb
 
 -- ---- signed numbers
 
-negative_ok : (n : ℕ) (digits : List ℕ) (z : ℤ) → is_numeral digits ≡ true → number_of digits ≡ n → negative n ≡ Ok z → IsSigned (0x2d ∷ digits) z
+negative_ok : (n : ℕ) (digits : List ℕ) (z : ℤ) → is_numeral digits ≡ true → number_of_digits digits ≡ n → negative n ≡ Ok z → IsSigned (0x2d ∷ digits) z
 negative_ok zero digits z yes_ is e = absurd cc
 negative_ok (suc n) digits z yes_ is e = let same : negsuc n ≡ z = cc in subst (λ (y : ℤ). IsSigned (0x2d ∷ digits) y) same (digits, refl, yes_, is)
 
 signed_ok : (word : List ℕ) (z : ℤ) → signed_of word ≡ Ok z → IsSigned word z
 signed_ok [] z e = absurd cc
 signed_ok (byte ∷ digits) z e =
-    elim (if_is (nat_eq byte 0x2d) (cond (is_numeral digits) (negative (number_of digits)) (Err reasons.Number)) (cond (is_numeral (byte ∷ digits)) (Ok (pos (number_of (byte ∷ digits)))) (Err reasons.Number)) (Ok z) e) [
-      | inl c ↦ elim (if_is (is_numeral digits) (negative (number_of digits)) (Err reasons.Number) (Ok z) c.1) [
-        | inl d ↦ subst (λ (b : ℕ). IsSigned (b ∷ digits) z) (sym (eq_is byte 0x2d c.0)) (negative_ok (number_of digits) digits z d.0 refl d.1)
+    elim (if_is (nat_eq byte 0x2d) (cond (is_numeral digits) (negative (number_of_digits digits)) (Err reasons.Number)) (cond (is_numeral (byte ∷ digits)) (Ok (pos (number_of_digits (byte ∷ digits)))) (Err reasons.Number)) (Ok z) e) [
+      | inl c ↦ elim (if_is (is_numeral digits) (negative (number_of_digits digits)) (Err reasons.Number) (Ok z) c.1) [
+        | inl d ↦ subst (λ (b : ℕ). IsSigned (b ∷ digits) z) (sym (eq_is byte 0x2d c.0)) (negative_ok (number_of_digits digits) digits z d.0 refl d.1)
         | inr d ↦ absurd cc
       ]
-      | inr c ↦ elim (if_is (is_numeral (byte ∷ digits)) (Ok (pos (number_of (byte ∷ digits)))) (Err reasons.Number) (Ok z) c.1) [
-        | inl d ↦ let same : pos (number_of (byte ∷ digits)) ≡ z = yes_is (pos (number_of (byte ∷ digits))) z d.1 in subst (λ (y : ℤ). IsSigned (byte ∷ digits) y) same (d.0, refl)
+      | inr c ↦ elim (if_is (is_numeral (byte ∷ digits)) (Ok (pos (number_of_digits (byte ∷ digits)))) (Err reasons.Number) (Ok z) c.1) [
+        | inl d ↦ let same : pos (number_of_digits (byte ∷ digits)) ≡ z = yes_is (pos (number_of_digits (byte ∷ digits))) z d.1 in subst (λ (y : ℤ). IsSigned (byte ∷ digits) y) same (d.0, refl)
         | inr d ↦ absurd cc
       ]
     ]
@@ -80,7 +80,7 @@ signed_again (byte ∷ digits) (pos n) is =
     ]
 signed_again word (negsuc n) is =
     let a = is.2 in
-    ap (λ (w : List ℕ). signed_of w) is.1 ∙ ap (λ (b : Bool). cond b (negative (number_of is.0)) (Err reasons.Number)) a ∙ ap (λ (m : ℕ). negative m) is.3
+    ap (λ (w : List ℕ). signed_of w) is.1 ∙ ap (λ (b : Bool). cond b (negative (number_of_digits is.0)) (Err reasons.Number)) a ∙ ap (λ (m : ℕ). negative m) is.3
 
 signed_token_ok : (token : Token) (labels : List Label) (z : ℤ) → signed_token token ≡ Ok z → IsToken labels token (Signed z)
 signed_token_ok (Bare word) labels z e = signed_ok word z e
@@ -96,16 +96,16 @@ any_signed-is = record { found = λ labels token z e. (signed_token_ok token lab
 
 -- ---- texts and doubles
 
-text_ok : (labels : List Label) (token : Token) (x : List ℕ) → text_of token ≡ Ok x → IsToken labels token (Text x)
+text_ok : (labels : List Label) (token : Token) (x : List ℕ) → text_of_token token ≡ Ok x → IsToken labels token (Text x)
 text_ok labels (Bare word) x e = absurd cc
 text_ok labels (Quoted bytes) x e = yes_is bytes x e
 
-text_again : (labels : List Label) (token : Token) (x : List ℕ) → IsToken labels token (Text x) → text_of token ≡ Ok x
+text_again : (labels : List Label) (token : Token) (x : List ℕ) → IsToken labels token (Text x) → text_of_token token ≡ Ok x
 text_again labels (Bare word) x is = absurd is
 text_again labels (Quoted bytes) x is = ap (λ (b : List ℕ). yes b) is
 
-pub text-is : IsOperand text
-unfolding text
+pub text-is : IsOperand text_operand
+unfolding text_operand
 text-is = record { found = λ labels token x e. (text_ok labels token x e, tt); again = λ labels token x is fit. text_again labels token x is }
 
 abbrev some : {A : Type 0} → A → Option A
@@ -164,11 +164,11 @@ place_ok : (o : Option ℕ) (n : ℕ) → found_place o ≡ Ok n → o ≡ Some 
 place_ok (Some m) n e = ap (λ (k : ℕ). some k) (yes_is m n e)
 place_ok None n e = absurd cc
 
-target_ok : (labels : List Label) (token : Token) (n : ℕ) → target_of labels token ≡ Ok n → IsToken labels token (Target n)
+target_ok : (labels : List Label) (token : Token) (n : ℕ) → target_operand labels token ≡ Ok n → IsToken labels token (Target n)
 target_ok labels (Bare word) n e = elim (if_is (is_name word) (found_place (place_of_label labels word)) (Err reasons.Kind) (Ok n) e) [ inl c ↦ (c.0, place_ok (place_of_label labels word) n c.1) | inr c ↦ absurd cc ]
 target_ok labels (Quoted bytes) n e = absurd cc
 
-target_again : (labels : List Label) (token : Token) (n : ℕ) → IsToken labels token (Target n) → target_of labels token ≡ Ok n
+target_again : (labels : List Label) (token : Token) (n : ℕ) → IsToken labels token (Target n) → target_operand labels token ≡ Ok n
 target_again labels (Bare word) n is = let a = is.0 in let b = is.1 in rw (a, b) refl
 target_again labels (Quoted bytes) n is = absurd is
 
@@ -181,11 +181,11 @@ kind_found {K} (Some j) k e = ap (λ (l : K). some l) (yes_is j k e)
 kind_found None k e = absurd cc
 
 module _ {K : Type 0} (name : K → List ℕ) (named : List ℕ → Option K) (default : K) (there : (word : List ℕ) (k : K) → named word ≡ Some k → word ≡ name k) (back : (k : K) → named (name k) ≡ Some k) where
-  kind_ok : (labels : List Label) (token : Token) (k : K) → kind_of named token ≡ Ok k → IsToken labels token (Kind (name k))
+  kind_ok : (labels : List Label) (token : Token) (k : K) → kind_operand named token ≡ Ok k → IsToken labels token (Kind (name k))
   kind_ok labels (Bare word) k e = there word k (kind_found (named word) k e)
   kind_ok labels (Quoted bytes) k e = absurd cc
 
-  kind_again : (labels : List Label) (token : Token) (k : K) → IsToken labels token (Kind (name k)) → kind_of named token ≡ Ok k
+  kind_again : (labels : List Label) (token : Token) (k : K) → IsToken labels token (Kind (name k)) → kind_operand named token ≡ Ok k
   kind_again labels (Bare word) k is = ap (λ (w : List ℕ). found_kind (named w)) is ∙ ap (λ (o : Option K). found_kind o) (back k)
   kind_again labels (Quoted bytes) k is = absurd is
 
@@ -212,7 +212,7 @@ no_reasons (Err s) d others e = absurd cc
 
 module _ {A B : Type 0} (p : Operand A) (rest : Option A → Operands B) (lp : IsOperand p) (lr : (x : A) → AreOperands (rest (Some x))) where
   -- what the operands are where the first has a value
-  by_found_at : (labels : List Label) (token : Token) (tokens : List Token) (r : Result A AsmReason) → p.reads labels token ≡ r → (rest (value_in r)).counts labels tokens ≡ true → reasons_in r ++ (rest (value_in r)).faults labels tokens ≡ [] → AreTokens labels (token ∷ tokens) ((by p rest).items (value_or r p.default, (rest (value_in r)).value labels tokens)) × (by p rest).fits (value_or r p.default, (rest (value_in r)).value labels tokens)
+  by_found_at : (labels : List Label) (token : Token) (tokens : List Token) (r : Result A AsmReason) → p.reads labels token ≡ r → (rest (value_if_any r)).counts labels tokens ≡ true → reasons_in r ++ (rest (value_if_any r)).faults labels tokens ≡ [] → AreTokens labels (token ∷ tokens) ((by p rest).items (value_or r p.default, (rest (value_if_any r)).value labels tokens)) × (by p rest).fits (value_or r p.default, (rest (value_if_any r)).value labels tokens)
   by_found_at labels token tokens (Ok x) e counts none_ =
       let one = lp.found labels token x e in
       let two = (lr x).found labels tokens counts none_ in
@@ -228,9 +228,9 @@ module _ {A B : Type 0} (p : Operand A) (rest : Option A → Operands B) (lp : I
   by_again labels (token ∷ tokens) x is fit =
       let one = lp.again labels token x.0 is.0 fit.0 in
       let two = (lr x.0).again labels tokens x.1 is.1 fit.1 in (
-        ap (λ (r : Result A AsmReason). (rest (value_in r)).counts labels tokens) one ∙ two.0,
-        ap (λ (r : Result A AsmReason). reasons_in r ++ (rest (value_in r)).faults labels tokens) one ∙ two.1,
-        ap (λ (r : Result A AsmReason). (value_or r p.default, (rest (value_in r)).value labels tokens)) one ∙ ap (λ (b : B). (x.0, b)) two.2,
+        ap (λ (r : Result A AsmReason). (rest (value_if_any r)).counts labels tokens) one ∙ two.0,
+        ap (λ (r : Result A AsmReason). reasons_in r ++ (rest (value_if_any r)).faults labels tokens) one ∙ two.1,
+        ap (λ (r : Result A AsmReason). (value_or r p.default, (rest (value_if_any r)).value labels tokens)) one ∙ ap (λ (b : B). (x.0, b)) two.2,
       )
 
   pub by-are : AreOperands (by p rest)
@@ -262,7 +262,7 @@ module _ {A : Type 0} (p : Operand A) (lp : IsOperand p) where
   pub several-are : AreOperands (several p)
   several-are = record { found = λ labels tokens counts e. several_found labels tokens e; again = λ labels tokens xs is fit. let h = several_again labels tokens xs is fit in (refl, h.0, h.1) }
 
-pub seen-are : {A B : Type 0} (f : A → B) (g : B → A) (p : Operands A) → ((x : A) → p.fits x → g (f x) ≡ x) → AreOperands p → AreOperands (seen f g p)
+pub seen-are : {A B : Type 0} (f : A → B) (g : B → A) (p : Operands A) → ((x : A) → p.fits x → g (f x) ≡ x) → AreOperands p → AreOperands (map_operands f g p)
 seen-are {A} {B} f g p back lp = record {
   found = λ labels tokens counts e.
       let h = lp.found labels tokens counts e in

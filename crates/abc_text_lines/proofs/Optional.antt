@@ -5,13 +5,13 @@ use Rattle.std.specs.declared.result.Result.{Result}
 use Rattle.abc_text_lines.specs.Reasons.{least}
 use Rattle.abc_text_lines.specs.Words.{place_of}
 use Rattle.abc_text_lines.proofs.Bools.{if_is, split_bool}
-use Rattle.abc_text_lines.specs.Lines.{Row, places, places_shown}
-use Rattle.abc_text_lines.specs.Rows.{Fault, Faults, Rows, Head, is_label, option_reads, option_shown, optional, topped, unless}
-use Rattle.abc_text_lines.specs.Law.{Among, IsFree, Keeps, Lawful, Match, Refused, Shows, Taken}
+use Rattle.abc_text_lines.specs.Lines.{Row, line_places, places_shown}
+use Rattle.abc_text_lines.specs.Rows.{Fault, Faults, Rows, Head, is_label, option_reads, option_shown, optional, with_line_value, unless}
+use Rattle.abc_text_lines.specs.Law.{Among, IsLineFree, LineKeeps, Lawful, Match, Refused, Shows, Taken}
 use Rattle.abc_text_lines.proofs.Many.{eq_refl, eq_true, label_place, none_inside, same_cons}
 use Rattle.abc_text_lines.proofs.Pieces.{bind_err, bind_ok, ok_is, unless_err, unless_ok}
 
-module _ {H B : Type 0} (given : Type 0) (same : Shows) (faults : Faults) (head : Head H B) (below : Rows B) (keeps : Keeps given same faults head below) (ordinary : ¬ (head.place ≡ 23)) (inside : (x : B) (before : List ℕ) (w : ℕ) (more : List ℕ) → places_shown (below.shows x) ≡ before ++ w ∷ more → Among w below.has) where
+module _ {H B : Type 0} (given : Type 0) (same : Shows) (faults : Faults) (head : Head H B) (below : Rows B) (keeps : LineKeeps given same faults head below) (ordinary : ¬ (head.place ≡ 23)) (inside : (x : B) (before : List ℕ) (w : ℕ) (more : List ℕ) → places_shown (below.shows x) ≡ before ++ w ∷ more → Among w below.has) where
   abbrev part : Rows (Option (H × B))
   part = optional faults head below
 
@@ -25,10 +25,10 @@ module _ {H B : Type 0} (given : Type 0) (same : Shows) (faults : Faults) (head 
   option_first None w more e = absurd cc
   option_first (Some x) w more e = let h : place_of (head.word x.0) ≡ w = cc in inl (sym h ∙ keeps.at x.0)
 
-  option_begins : (x : Option (H × B)) (front : List Row) (w : ℕ) (more : List ℕ) → Match same front (option_shown head below x) → places front ≡ w ∷ more → Among w (head.place ∷ [])
-  option_begins None front w more match e = let none : places front ≡ [] = ap places match in absurd cc
+  option_begins : (x : Option (H × B)) (front : List Row) (w : ℕ) (more : List ℕ) → Match same front (option_shown head below x) → line_places front ≡ w ∷ more → Among w (head.place ∷ [])
+  option_begins None front w more match e = let none : line_places front ≡ [] = ap line_places match in absurd cc
   option_begins (Some x) front w more match e =
-      let all : places front ≡ place_of match.0.word ∷ places match.1 = ap places match.2 in
+      let all : line_places front ≡ place_of match.0.word ∷ line_places match.1 = ap line_places match.2 in
       let h : place_of match.0.word ≡ w = cc in
       inl (sym h ∙ ap place_of match.3.word ∙ keeps.at x.0)
 
@@ -55,7 +55,7 @@ module _ {H B : Type 0} (given : Type 0) (same : Shows) (faults : Faults) (head 
       (record { front = []; parts = refl; shown = refl; clean = tt; fits = λ all free. tt; like = None; alike = refl; stops = λ y w more s h. other_stops row differs y w more s h })
 
   module _ (n : ℕ) (lb : Lawful given same faults n below) where
-    one_taken : (row : Row) (rows : List Row) (x : Option (H × B)) (rest : List Row) → length rows ≤ n → place_of row.word ≡ head.place → (least (faults row rows) ≡ None) × (topped (head.value row) (below.reads rows) ≡ Ok (x, rest)) → Taken given same faults part (row ∷ rows) x rest
+    one_taken : (row : Row) (rows : List Row) (x : Option (H × B)) (rest : List Row) → length rows ≤ n → place_of row.word ≡ head.place → (least (faults row rows) ≡ None) × (with_line_value (head.value row) (below.reads rows) ≡ Ok (x, rest)) → Taken given same faults part (row ∷ rows) x rest
     one_taken row rows x rest le here u =
         let b = bind_ok (below.reads rows) (λ y. Ok (Some (head.value row, y.0), y.1)) (x, rest) u.1 in
         let z = b.0 in
@@ -73,11 +73,11 @@ module _ {H B : Type 0} (given : Type 0) (same : Shows) (faults : Faults) (head 
               let inner = t.fits all (λ w h a. free w h (inr a)) in
               (keeps.fits all row t.front z.1 z.0 here plain clean t.shown inner (λ w h a. free w h (inr a)), inner);
           like = Some (head.value row, t.like);
-          alike = same_cons (place_of (head.word (head.value row))) (place_of row.word) (places_shown (below.shows t.like)) (places t.front) (keeps.at (head.value row) ∙ sym here) t.alike;
-          stops = λ y w more s h. one_stops y (place_of row.word) (places t.front) w more (λ b s1. t.stops b w more s1 h) s;
+          alike = same_cons (place_of (head.word (head.value row))) (place_of row.word) (places_shown (below.shows t.like)) (line_places t.front) (keeps.at (head.value row) ∙ sym here) t.alike;
+          stops = λ y w more s h. one_stops y (place_of row.word) (line_places t.front) w more (λ b s1. t.stops b w more s1 h) s;
         })
 
-    one_refused : (row : Row) (rows : List Row) (f : Fault) → length rows ≤ n → place_of row.word ≡ head.place → ((least (faults row rows) ≡ Some f.reason) × (f.line ≡ row.number)) ⊎ ((least (faults row rows) ≡ None) × (topped (head.value row) (below.reads rows) ≡ Err f)) → Refused faults part (row ∷ rows) f
+    one_refused : (row : Row) (rows : List Row) (f : Fault) → length rows ≤ n → place_of row.word ≡ head.place → ((least (faults row rows) ≡ Some f.reason) × (f.line ≡ row.number)) ⊎ ((least (faults row rows) ≡ None) × (with_line_value (head.value row) (below.reads rows) ≡ Err f)) → Refused faults part (row ∷ rows) f
     one_refused row rows f le here u =
         elim u [
           | inl now ↦ record {
@@ -105,7 +105,7 @@ module _ {H B : Type 0} (given : Type 0) (same : Shows) (faults : Faults) (head 
                   line = r.line;
                   like = Some (head.value row, r.like);
                   more = r.more;
-                  alike = same_cons (place_of (head.word (head.value row))) (place_of row.word) (places_shown (below.shows r.like)) (places r.front ++ place_of r.row.word ∷ r.more) (keeps.at (head.value row) ∙ sym here) r.alike;
+                  alike = same_cons (place_of (head.word (head.value row))) (place_of row.word) (places_shown (below.shows r.like)) (line_places r.front ++ place_of r.row.word ∷ r.more) (keeps.at (head.value row) ∙ sym here) r.alike;
                 }
             | inr c ↦ absurd cc
           ]
@@ -117,20 +117,20 @@ module _ {H B : Type 0} (given : Type 0) (same : Shows) (faults : Faults) (head 
         subst (λ (z : Option (H × B) × List Row). Taken given same faults part [] z.0 z.1) (ok_is made (x, rest) e)
         (record { front = []; parts = refl; shown = refl; clean = tt; fits = λ all free. tt; like = None; alike = refl; stops = λ y w more s h. absurd h })
     option_taken (row ∷ rows) x rest le e =
-        elim (if_is (nat_eq (place_of row.word) head.place) (unless (least (faults row rows)) row.number (topped (head.value row) (below.reads rows))) (Ok (None, row ∷ rows)) (Ok (x, rest)) e) [
+        elim (if_is (nat_eq (place_of row.word) head.place) (unless (least (faults row rows)) row.number (with_line_value (head.value row) (below.reads rows))) (Ok (None, row ∷ rows)) (Ok (x, rest)) e) [
           | inr c ↦ other_taken row rows x rest c.0 c.1
-          | inl c ↦ one_taken row rows x rest (omega arith) (eq_true (place_of row.word) head.place c.0) (unless_ok (least (faults row rows)) row.number (topped (head.value row) (below.reads rows)) (x, rest) c.1)
+          | inl c ↦ one_taken row rows x rest (omega arith) (eq_true (place_of row.word) head.place c.0) (unless_ok (least (faults row rows)) row.number (with_line_value (head.value row) (below.reads rows)) (x, rest) c.1)
         ]
 
     option_refused : (rows : List Row) (f : Fault) → length rows ≤ n → option_reads faults head below rows ≡ Err f → Refused faults part rows f
     option_refused [] f le e = absurd cc
     option_refused (row ∷ rows) f le e =
-        elim (if_is (nat_eq (place_of row.word) head.place) (unless (least (faults row rows)) row.number (topped (head.value row) (below.reads rows))) (Ok (None, row ∷ rows)) (Err f) e) [
+        elim (if_is (nat_eq (place_of row.word) head.place) (unless (least (faults row rows)) row.number (with_line_value (head.value row) (below.reads rows))) (Ok (None, row ∷ rows)) (Err f) e) [
           | inr c ↦ absurd cc
-          | inl c ↦ one_refused row rows f (omega arith) (eq_true (place_of row.word) head.place c.0) (unless_err (least (faults row rows)) row.number (topped (head.value row) (below.reads rows)) f c.1)
+          | inl c ↦ one_refused row rows f (omega arith) (eq_true (place_of row.word) head.place c.0) (unless_err (least (faults row rows)) row.number (with_line_value (head.value row) (below.reads rows)) f c.1)
         ]
 
-    none_again : (rest : List Row) → IsFree part rest → option_reads faults head below rest ≡ Ok (None, rest)
+    none_again : (rest : List Row) → IsLineFree part rest → option_reads faults head below rest ≡ Ok (None, rest)
     none_again [] free = refl
     none_again (row ∷ rest) free =
         elim (split_bool (nat_eq (place_of row.word) head.place)) [
@@ -138,7 +138,7 @@ module _ {H B : Type 0} (given : Type 0) (same : Shows) (faults : Faults) (head 
           | inr e ↦ rw e refl
         ]
 
-    option_again : (x : Option (H × B)) (front rest : List Row) → length (front ++ rest) ≤ n → part.fits x → Match same front (option_shown head below x) → IsFree part rest → option_reads faults head below (front ++ rest) ≡ Ok (x, rest)
+    option_again : (x : Option (H × B)) (front rest : List Row) → length (front ++ rest) ≤ n → part.fits x → Match same front (option_shown head below x) → IsLineFree part rest → option_reads faults head below (front ++ rest) ≡ Ok (x, rest)
     option_again None front rest le fit match free = rw match (none_again rest free)
     option_again (Some x) front rest le fit match free =
         let row = match.0 in

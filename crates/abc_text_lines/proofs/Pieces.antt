@@ -6,7 +6,7 @@ use Rattle.std.proofs.lemmas.List.{map-append}
 use Rattle.abc_text_lines.specs.declared.reason.AsmReason.{AsmReason}
 use Rattle.abc_text_lines.specs.Reasons.{least}
 use Rattle.abc_text_lines.specs.Words.{place_of}
-use Rattle.abc_text_lines.specs.Lines.{Row, Shown, Line, Labels, places, places_shown}
+use Rattle.abc_text_lines.specs.Lines.{Row, Shown, Line, Labels, line_places, places_shown}
 use Rattle.abc_text_lines.specs.Rows.{Fault, Faults, fault, unless, ◌>>=◌}
 use Rattle.abc_text_lines.specs.Law.{Among, Clean, Match, Next, Shows}
 
@@ -49,7 +49,7 @@ cut (x ∷ a) b (y ∷ c) d e =
       | inr m ↦ inr (m.0, m.1, (let f : c ≡ a ++ m.0 ∷ m.1 = m.2 in cc), m.3)
     ]
 
-pub places-append : (a b : List Row) → places (a ++ b) ≡ places a ++ places b
+pub places-append : (a b : List Row) → line_places (a ++ b) ≡ line_places a ++ line_places b
 places-append a b = map-append (λ (row : Row). place_of row.word) a b
 
 pub shown-append : (a b : List Shown) → places_shown (a ++ b) ≡ places_shown a ++ places_shown b
@@ -70,15 +70,15 @@ Next-head [] x y h k = absurd h
 Next-head (row ∷ rest) x y h k = sym h ∙ k
 
 -- the next line's place, where there is one
-pub Next-places : (rows rest : List Row) (x : ℕ) (more : List ℕ) → places rows ≡ x ∷ more → Next (rows ++ rest) x
+pub Next-places : (rows rest : List Row) (x : ℕ) (more : List ℕ) → line_places rows ≡ x ∷ more → Next (rows ++ rest) x
 Next-places [] rest x more e = absurd cc
 Next-places (row ∷ rows) rest x more e = let h : place_of row.word ≡ x = cc in h
 
-pub Next-cases : (rows rest : List Row) (x : ℕ) → Next (rows ++ rest) x → ((more : List ℕ) × (places rows ≡ x ∷ more)) ⊎ Next rest x
+pub Next-cases : (rows rest : List Row) (x : ℕ) → Next (rows ++ rest) x → ((more : List ℕ) × (line_places rows ≡ x ∷ more)) ⊎ Next rest x
 Next-cases [] rest x h = inr h
-Next-cases (row ∷ rows) rest x h = inl (places rows, ap (λ (n : ℕ). n ∷ places rows) h)
+Next-cases (row ∷ rows) rest x h = inl (line_places rows, ap (λ (n : ℕ). n ∷ line_places rows) h)
 
-pub Next-made : (rows rest : List Row) (x y : ℕ) (more tail : List ℕ) → places rows ++ x ∷ more ≡ y ∷ tail → Next rest x → Next (rows ++ rest) y
+pub Next-made : (rows rest : List Row) (x y : ℕ) (more tail : List ℕ) → line_places rows ++ x ∷ more ≡ y ∷ tail → Next rest x → Next (rows ++ rest) y
 Next-made [] rest x y more tail e h = let same : x ≡ y = cc in subst (λ (n : ℕ). Next rest n) same h
 Next-made (row ∷ rows) rest x y more tail e h = let same : place_of row.word ≡ y = cc in same
 

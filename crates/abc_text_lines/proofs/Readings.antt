@@ -2,7 +2,7 @@
 use Rattle.std.proofs.Common.{◌≡◌, ℕ, inl, inr, Bool, true, false, nat_eq, List, [], ◌∷◌, ◌++◌, refl, sym, ap, subst, ◌∙◌, append_assoc, append-nil}
 use Rattle.std.specs.List.{AllByRecursion}
 use Rattle.abc_text_lines.specs.Tokens.{Token, Bare, Quoted, EndsRun, HasTokens, IsQuoted, backslash, hex_pair, is_blank, is_hex, is_run_byte, quote, semicolon}
-use Rattle.abc_text_lines.specs.Scanning.{Between, Escape, EscapeLow, InQuote, InRun, Scan, Within, also, scan, scanned}
+use Rattle.abc_text_lines.specs.Scanning.{Between, Escape, EscapeLow, InQuote, InRun, Scan, Within, also, scan, scan_of}
 use Rattle.abc_text_lines.proofs.Bools.{split_bool}
 use Rattle.abc_text_lines.proofs.Scans.{eq_is, not_closed, quote_goes_on}
 
@@ -39,7 +39,7 @@ some_append : (word : List ℕ) (b : ℕ) → ¬ (word ++ b ∷ [] ≡ [])
 some_append [] b e = cc
 some_append (c ∷ word) b e = cc
 
-broken_line : (inner text more : List ℕ) → IsQuoted inner text → scan more (InQuote text) ≡ scanned true [] → HasTokens true (quote ∷ (inner ++ more)) []
+broken_line : (inner text more : List ℕ) → IsQuoted inner text → scan more (InQuote text) ≡ scan_of true [] → HasTokens true (quote ∷ (inner ++ more)) []
 broken_line inner text more is e = ([], quote ∷ (inner ++ more), refl, tt, (inner ++ more, refl, not_closed (inner ++ more) (quote_goes_on inner text more [] is ∙ e)))
 
 quoted_line : (s : Scan) (inner text rest : List ℕ) → IsQuoted inner text → Reads s rest → Reads (also (Quoted text) s) (quote ∷ (inner ++ quote ∷ rest))
@@ -52,7 +52,7 @@ run_line s word rest some all ends has = ([], rest, refl, tt, record { some = so
 moved : (s : Scan) (a b : List ℕ) → a ≡ b → Reads s a → Reads s b
 moved s a b e has = subst (λ (l : List ℕ). Reads s l) e has
 
-comment_line : (b : ℕ) (bytes : List ℕ) → nat_eq b semicolon ≡ true → Reads (scanned false []) (b ∷ bytes)
+comment_line : (b : ℕ) (bytes : List ℕ) → nat_eq b semicolon ≡ true → Reads (scan_of false []) (b ∷ bytes)
 comment_line b bytes e = ([], b ∷ bytes, refl, tt, inr (bytes, ap (λ (n : ℕ). n ∷ bytes) (eq_is b semicolon e)))
 
 regrouped : (a b : List ℕ) (x : ℕ) (c : List ℕ) → (a ++ x ∷ b) ++ c ≡ a ++ x ∷ (b ++ c)
@@ -64,7 +64,7 @@ reading_run b bytes word more some all =
     elim (split_bool (is_blank b)) [
       | inl x ↦ rw x (run_line (scan bytes Between) word (b ∷ bytes) some all (rw x refl) (blank_more (scan bytes Between).tokens (scan bytes Between).broken b bytes x (more Between [] refl)))
       | inr x ↦ elim (split_bool (nat_eq b semicolon)) [
-        | inl y ↦ rw (x, y) (run_line (scanned false []) word (b ∷ bytes) some all (rw (x, y) refl) (comment_line b bytes y))
+        | inl y ↦ rw (x, y) (run_line (scan_of false []) word (b ∷ bytes) some all (rw (x, y) refl) (comment_line b bytes y))
         | inr y ↦ elim (split_bool (nat_eq b quote)) [
           | inl z ↦
               let same : quote ≡ b = sym (eq_is b quote z) in
@@ -121,7 +121,7 @@ reading_escape b bytes inner text is more =
           rw x (moved (scan bytes (EscapeLow text b)) (quote ∷ ((inner ++ backslash ∷ b ∷ []) ++ bytes)) (quote ∷ (inner ++ backslash ∷ b ∷ bytes)) (ap (λ (l : List ℕ). quote ∷ l) (append_assoc inner (backslash ∷ b ∷ []) bytes))
           (more (EscapeLow text b) (quote ∷ (inner ++ backslash ∷ b ∷ [])) (inner, refl, is, x)))
       | inr x ↦
-          let none : scan (backslash ∷ b ∷ bytes) (InQuote text) ≡ scanned true [] = rw x refl in
+          let none : scan (backslash ∷ b ∷ bytes) (InQuote text) ≡ scan_of true [] = rw x refl in
           rw x (broken_line inner text (backslash ∷ b ∷ bytes) is none)
     ]
 
@@ -134,13 +134,13 @@ reading_low b high bytes inner text is hex more =
           rw x (moved (scan bytes (InQuote (text ++ byte ∷ []))) (quote ∷ ((inner ++ backslash ∷ high ∷ b ∷ []) ++ bytes)) (quote ∷ (inner ++ backslash ∷ high ∷ b ∷ bytes)) (ap (λ (l : List ℕ). quote ∷ l) (append_assoc inner (backslash ∷ high ∷ b ∷ []) bytes))
           (more (InQuote (text ++ byte ∷ [])) (quote ∷ (inner ++ backslash ∷ high ∷ b ∷ [])) (inner ++ backslash ∷ high ∷ b ∷ [], refl, quoted_append inner text (backslash ∷ high ∷ b ∷ []) (byte ∷ []) is (inr (high, b, [], refl, hex, x, refl, refl)))))
       | inr x ↦
-          let none : scan (backslash ∷ high ∷ b ∷ bytes) (InQuote text) ≡ scanned true [] = rw (hex, x) refl in
+          let none : scan (backslash ∷ high ∷ b ∷ bytes) (InQuote text) ≡ scan_of true [] = rw (hex, x) refl in
           rw x (broken_line inner text (backslash ∷ high ∷ b ∷ bytes) is none)
     ]
 
 ended_run : (word : List ℕ) → ¬ (word ≡ []) → AllByRecursion (λ byte. is_run_byte byte ≡ true) word → Reads (scan [] (InRun word)) (word ++ [])
 unfolding scan
-ended_run word some all = run_line (scanned false []) word [] some all tt ([], [], refl, tt, inl refl)
+ended_run word some all = run_line (scan_of false []) word [] some all tt ([], [], refl, tt, inl refl)
 
 ended_quote : (inner text : List ℕ) → IsQuoted inner text → Reads (scan [] (InQuote text)) (quote ∷ (inner ++ []))
 unfolding scan
@@ -173,5 +173,5 @@ reading (b ∷ bytes) (Escape text) done is =
 reading (b ∷ bytes) (EscapeLow text high) done is =
     moved (scan (b ∷ bytes) (EscapeLow text high)) (quote ∷ (is.0 ++ backslash ∷ high ∷ b ∷ bytes)) (done ++ b ∷ bytes) (ap (λ (l : List ℕ). quote ∷ l) (sym (append_assoc is.0 (backslash ∷ high ∷ []) (b ∷ bytes))) ∙ ap (λ (l : List ℕ). l ++ b ∷ bytes) (sym is.1)) (reading_low b high bytes is.0 text is.2 is.3 (λ w d i. reading bytes w d i))
 
-pub scanned_tokens : (bytes : List ℕ) (tokens : List Token) (broken : Bool) → scan bytes Between ≡ scanned broken tokens → HasTokens broken bytes tokens
+pub scanned_tokens : (bytes : List ℕ) (tokens : List Token) (broken : Bool) → scan bytes Between ≡ scan_of broken tokens → HasTokens broken bytes tokens
 scanned_tokens bytes tokens broken e = subst (λ (s : Scan). Reads s bytes) e (reading bytes Between [] refl)

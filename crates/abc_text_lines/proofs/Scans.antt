@@ -1,8 +1,8 @@
 -- The tokens of a line are found by going over it once.
 use Rattle.std.proofs.Common.{◌≡◌, ℕ, ◌⊎◌, inl, inr, Bool, true, false, ◌&&◌, not, nat_eq, List, [], ◌∷◌, ◌++◌, refl, sym, ap, subst, ◌∙◌, append_assoc, append-nil, rules}
 use Rattle.std.specs.List.{AllByRecursion}
-use Rattle.abc_text_lines.specs.Tokens.{Token, Bare, Quoted, AreBlanks, EndsLine, EndsRun, HasTokens, IsClosed, IsQuoted, IsRun, backslash, hex_pair, is_blank, is_hex, is_run_byte, quote, semicolon}
-use Rattle.abc_text_lines.specs.Scanning.{Between, InQuote, InRun, Scan, also, scan, scanned}
+use Rattle.abc_text_lines.specs.Tokens.{Token, Bare, Quoted, AreBlanks, EndsLine, EndsRun, HasTokens, IsQuoteClosed, IsQuoted, IsRun, backslash, hex_pair, is_blank, is_hex, is_run_byte, quote, semicolon}
+use Rattle.abc_text_lines.specs.Scanning.{Between, InQuote, InRun, Scan, also, scan, scan_of}
 use Rattle.abc_text_lines.proofs.Bools.{and_true, not_true, split_bool}
 
 -- ---- runs
@@ -109,50 +109,50 @@ pub quoted_read : (inner text rest : List ℕ) → IsQuoted inner text → scan 
 quoted_read inner text rest is = quote_begins (inner ++ quote ∷ rest) ∙ quote_goes_on inner text (quote ∷ rest) [] is ∙ quote_ends rest text
 
 -- a front that is closed is read, so what is broken isn't closed
-pub not_closed : (others : List ℕ) → scan others (InQuote []) ≡ scanned true [] → IsClosed others → ⊥
+pub not_closed : (others : List ℕ) → scan others (InQuote []) ≡ scan_of true [] → IsQuoteClosed others → ⊥
 not_closed others e c =
     let inner = c.0 in
     let text = c.1 in
     let rest = c.2 in
-    let is : scanned true [] ≡ also (Quoted text) (scan rest Between) = sym e ∙ ap (λ (l : List ℕ). scan l (InQuote [])) c.3 ∙ quote_goes_on inner text (quote ∷ rest) [] c.4 ∙ quote_ends rest text in
+    let is : scan_of true [] ≡ also (Quoted text) (scan rest Between) = sym e ∙ ap (λ (l : List ℕ). scan l (InQuote [])) c.3 ∙ quote_goes_on inner text (quote ∷ rest) [] c.4 ∙ quote_ends rest text in
     let none : [] ≡ Quoted text ∷ (scan rest Between).tokens = ap (λ (s : Scan). s.tokens) is in
     cc
 
 -- ---- what isn't closed
 
-closed_more : (b : ℕ) (rest : List ℕ) → nat_eq b quote ≡ false → nat_eq b backslash ≡ false → IsClosed rest → IsClosed (b ∷ rest)
+closed_more : (b : ℕ) (rest : List ℕ) → nat_eq b quote ≡ false → nat_eq b backslash ≡ false → IsQuoteClosed rest → IsQuoteClosed (b ∷ rest)
 closed_more b rest x y c = (b ∷ c.0, b ∷ c.1, c.2, ap (λ (l : List ℕ). b ∷ l) c.3, inl (c.0, refl, x, y, c.4))
 
-closed_escape : (high low : ℕ) (rest : List ℕ) → is_hex high ≡ true → is_hex low ≡ true → IsClosed rest → IsClosed (backslash ∷ high ∷ low ∷ rest)
+closed_escape : (high low : ℕ) (rest : List ℕ) → is_hex high ≡ true → is_hex low ≡ true → IsQuoteClosed rest → IsQuoteClosed (backslash ∷ high ∷ low ∷ rest)
 closed_escape high low rest x y c = (backslash ∷ high ∷ low ∷ c.0, hex_pair high low ∷ c.1, c.2, ap (λ (l : List ℕ). backslash ∷ high ∷ low ∷ l) c.3, inr (high, low, c.0, refl, x, y, refl, c.4))
 
 pub eq_is : (b n : ℕ) → nat_eq b n ≡ true → b ≡ n
 eq_is b n e = search rules
 
-open_low : (high low : ℕ) (rest front : List ℕ) (t : Bool) → is_hex low ≡ t → is_hex high ≡ true → (t ≡ true → scan rest (InQuote (front ++ hex_pair high low ∷ [])) ≡ scanned true []) → scan (backslash ∷ high ∷ low ∷ rest) (InQuote front) ≡ scanned true []
+open_low : (high low : ℕ) (rest front : List ℕ) (t : Bool) → is_hex low ≡ t → is_hex high ≡ true → (t ≡ true → scan rest (InQuote (front ++ hex_pair high low ∷ [])) ≡ scan_of true []) → scan (backslash ∷ high ∷ low ∷ rest) (InQuote front) ≡ scan_of true []
 unfolding scan
 open_low high low rest front true e h more = rw (h, e) (more refl)
 open_low high low rest front false e h more = rw (h, e) refl
 
-open_high : (high : ℕ) (rest front : List ℕ) → is_hex high ≡ false → scan (backslash ∷ high ∷ rest) (InQuote front) ≡ scanned true []
+open_high : (high : ℕ) (rest front : List ℕ) → is_hex high ≡ false → scan (backslash ∷ high ∷ rest) (InQuote front) ≡ scan_of true []
 unfolding scan
 open_high high rest front h = rw h refl
 
-open_one : (high : ℕ) (front : List ℕ) (t : Bool) → is_hex high ≡ t → scan (backslash ∷ high ∷ []) (InQuote front) ≡ scanned true []
+open_one : (high : ℕ) (front : List ℕ) (t : Bool) → is_hex high ≡ t → scan (backslash ∷ high ∷ []) (InQuote front) ≡ scan_of true []
 unfolding scan
 open_one high front true e = rw e refl
 open_one high front false e = rw e refl
 
-open_none : (front : List ℕ) → scan (backslash ∷ []) (InQuote front) ≡ scanned true []
+open_none : (front : List ℕ) → scan (backslash ∷ []) (InQuote front) ≡ scan_of true []
 unfolding scan
 open_none front = refl
 
-empty_open : (front : List ℕ) → scan [] (InQuote front) ≡ scanned true []
+empty_open : (front : List ℕ) → scan [] (InQuote front) ≡ scan_of true []
 unfolding scan
 empty_open front = refl
 
 -- one step of a text that isn't closed, by its first byte
-open_step : (b : ℕ) (rest front : List ℕ) → (IsClosed (b ∷ rest) → ⊥) → (nat_eq b backslash ≡ false → (IsClosed rest → ⊥) → scan rest (InQuote (front ++ b ∷ [])) ≡ scanned true []) → (nat_eq b backslash ≡ true → scan (b ∷ rest) (InQuote front) ≡ scanned true []) → scan (b ∷ rest) (InQuote front) ≡ scanned true []
+open_step : (b : ℕ) (rest front : List ℕ) → (IsQuoteClosed (b ∷ rest) → ⊥) → (nat_eq b backslash ≡ false → (IsQuoteClosed rest → ⊥) → scan rest (InQuote (front ++ b ∷ [])) ≡ scan_of true []) → (nat_eq b backslash ≡ true → scan (b ∷ rest) (InQuote front) ≡ scan_of true []) → scan (b ∷ rest) (InQuote front) ≡ scan_of true []
 open_step b rest front not_ plain escape =
     elim (split_bool (nat_eq b quote)) [
       | inl x ↦ absurd (not_ ([], [], rest, ap (λ (n : ℕ). n ∷ rest) (eq_is b quote x), refl))
@@ -162,7 +162,7 @@ open_step b rest front not_ plain escape =
       ]
     ]
 
-pub stays_open : (bytes front : List ℕ) → (IsClosed bytes → ⊥) → scan bytes (InQuote front) ≡ scanned true []
+pub stays_open : (bytes front : List ℕ) → (IsQuoteClosed bytes → ⊥) → scan bytes (InQuote front) ≡ scan_of true []
 stays_open [] front not_ = empty_open front
 stays_open (b ∷ []) front not_ =
     open_step b [] front not_ (λ y n. empty_open (front ++ b ∷ [])) (λ y. ap (λ (n : ℕ). scan (n ∷ []) (InQuote front)) (eq_is b backslash y) ∙ open_none front)
@@ -175,12 +175,12 @@ stays_open (b ∷ high ∷ low ∷ rest) front not_ =
     ap (λ (n : ℕ). scan (n ∷ high ∷ low ∷ rest) (InQuote front)) same
     ∙ elim (split_bool (is_hex high)) [
       | inr h ↦ open_high high (low ∷ rest) front h
-      | inl h ↦ open_low high low rest front (is_hex low) refl h (λ l. stays_open rest (front ++ hex_pair high low ∷ []) (λ c. not_ (subst (λ (n : ℕ). IsClosed (n ∷ high ∷ low ∷ rest)) (sym same) (closed_escape high low rest h l c))))
+      | inl h ↦ open_low high low rest front (is_hex low) refl h (λ l. stays_open rest (front ++ hex_pair high low ∷ []) (λ c. not_ (subst (λ (n : ℕ). IsQuoteClosed (n ∷ high ∷ low ∷ rest)) (sym same) (closed_escape high low rest h l c))))
     ])
 
 -- ---- whole lines
 
-ends_read : (broken : Bool) (bytes : List ℕ) → EndsLine broken bytes → scan bytes Between ≡ scanned broken []
+ends_read : (broken : Bool) (bytes : List ℕ) → EndsLine broken bytes → scan bytes Between ≡ scan_of broken []
 unfolding scan
 ends_read false bytes ends =
     elim ends [
@@ -189,7 +189,7 @@ ends_read false bytes ends =
     ]
 ends_read true bytes ends = ap (λ (l : List ℕ). scan l Between) ends.1 ∙ stays_open ends.0 [] ends.2
 
-pub tokens_scanned : (tokens : List Token) (broken : Bool) (bytes : List ℕ) → HasTokens broken bytes tokens → scan bytes Between ≡ scanned broken tokens
+pub tokens_scanned : (tokens : List Token) (broken : Bool) (bytes : List ℕ) → HasTokens broken bytes tokens → scan bytes Between ≡ scan_of broken tokens
 tokens_scanned [] broken bytes has = ap (λ (l : List ℕ). scan l Between) has.2 ∙ blanks_read has.0 has.1 has.3 ∙ ends_read broken has.1 has.4
 tokens_scanned (Bare word ∷ tokens) broken bytes has =
     ap (λ (l : List ℕ). scan l Between) has.2 ∙ blanks_read has.0 (word ++ has.1) has.3 ∙ run_read word has.1 has.4 ∙ ap (λ (s : Scan). also (Bare word) s) (tokens_scanned tokens broken has.1 has.5)

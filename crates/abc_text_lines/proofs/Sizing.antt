@@ -10,10 +10,10 @@ use Rattle.abc_text_lines.specs.Assembly as rows
 use Rattle.abc_text_lines.specs.Lines.{Row, places_shown}
 use Rattle.abc_text_lines.specs.Rows.{Faults, Rows}
 use Rattle.abc_text_lines.specs.Law.{Among, Lawful, Match}
-use Rattle.abc_text_lines.specs.Wordlines.{always, among, count_all, count_in, flat, line, shows_operands}
+use Rattle.abc_text_lines.specs.Wordlines.{always, among, count_all, count_in, flat_lines, lines_of_word, shows_operands}
 use Rattle.abc_text_lines.proofs.Counts.{count_all-match, count_in-none, flat_count, many_count}
 use Rattle.abc_text_lines.proofs.Wordlines.{among_yes, apart, flat-lawful}
-use Rattle.abc_text_lines.specs.File.{InstanceBelow, body_lines, rules, scripts, ClassAgrees, InstanceAgrees, IsBalanced, MethodAgrees, Outline, PoolValues, classes, faults, file, instance_below, instance_lines, metadata, method_below, method_part, methods, pools, skipped, traits}
+use Rattle.abc_text_lines.specs.File.{InstanceBelow, body_lines, rules, scripts, ClassAgrees, InstanceAgrees, IsBalanced, MethodAgrees, Outline, PoolValues, classes, faults, file, instance_below, instance_lines, metadata, method_below, method_part, methods, pools, skipped_words, traits}
 use Rattle.abc_text_lines.specs.Lineforms.{InstanceHead, double_line, entry_line, instance_line, int_line, method_index_line, method_line, name_line, namespace_line, set_line, string_index_line, string_line, uint_line}
 use Rattle.abc_text_lines.proofs.Below.{count_two, flat_none}
 use Rattle.abc_text_lines.proofs.Forms.{entry-are}
@@ -47,28 +47,28 @@ module _ (v : Sizes) (instances n : ℕ) where
   method_count : (ms : List Method) → at 8 (methods v instances n) ms ≡ length ms
   unfolding methods
   method_count ms =
-      many_count (line words.Method (method_line v) (MethodAgrees v instances)) (method_below v instances n) (λ h. refl) (method_below-lawful v instances n).inside
+      many_count (lines_of_word words.Method (method_line v) (MethodAgrees v instances)) (method_below v instances n) (λ h. refl) (method_below-lawful v instances n).inside
       (λ a. apart (8 ∷ []) method_part refl 8 (inl refl) (subst (λ (l : List ℕ). Among 8 l) (method_below_has v instances n) a)) (map _ ms)
       ∙ length_map _ ms
 
-  entry_places : (x : List (ℕ × ℕ)) (before : List ℕ) (w : ℕ) (more : List ℕ) → places_shown ((flat fs words.Entry (entry_line v) n).shows x) ≡ before ++ w ∷ more → Among w (13 ∷ [])
+  entry_places : (x : List (ℕ × ℕ)) (before : List ℕ) (w : ℕ) (more : List ℕ) → places_shown ((flat_lines fs words.Entry (entry_line v) n).shows x) ≡ before ++ w ∷ more → Among w (13 ∷ [])
   entry_places x before w more e = (flat-lawful given (rules v instances) words.Entry (entry_line v) (λ e. absurd (omega arith)) (λ labels tokens. refl) (free v instances words.Entry (λ e. absurd (omega arith)) (λ row after. refl)) (entry-are v) n).inside x before w more e
 
   metadata_count : (ms : List (ℕ × List (ℕ × ℕ))) → at 12 (metadata v instances n) ms ≡ length ms
   unfolding metadata
-  metadata_count ms = many_count (line words.Metadata (string_index_line v) always) (flat fs words.Entry (entry_line v) n) (λ h. refl) entry_places (λ a. apart (12 ∷ []) (13 ∷ []) refl 12 (inl refl) a) ms
+  metadata_count ms = many_count (lines_of_word words.Metadata (string_index_line v) always) (flat_lines fs words.Entry (entry_line v) n) (λ h. refl) entry_places (λ a. apart (12 ∷ []) (13 ∷ []) refl 12 (inl refl) a) ms
 
   instance_count : (is : List (InstanceHead × InstanceBelow v instances)) → at 14 (instance_lines v instances n) is ≡ length is
   unfolding instance_lines
   instance_count is =
-      many_count (line words.Instance (instance_line v) (InstanceAgrees v instances)) (instance_below v instances n) (λ h. refl) (instance_below-lawful v instances n).inside
-      (λ a. apart (14 ∷ []) (15 ∷ 16 ∷ 17 ∷ 18 ∷ 19 ∷ 23 ∷ 25 ∷ skipped) refl 14 (inl refl) (subst (λ (l : List ℕ). Among 14 l) (instance_below_has v instances n) a)) is
+      many_count (lines_of_word words.Instance (instance_line v) (InstanceAgrees v instances)) (instance_below v instances n) (λ h. refl) (instance_below-lawful v instances n).inside
+      (λ a. apart (14 ∷ []) (15 ∷ 16 ∷ 17 ∷ 18 ∷ 19 ∷ 23 ∷ 25 ∷ skipped_words) refl 14 (inl refl) (subst (λ (l : List ℕ). Among 14 l) (instance_below_has v instances n) a)) is
 
   class_count : (cs : List ClassInfo) → at 20 (classes v instances n) cs ≡ length cs
   unfolding classes
   class_count cs =
-      many_count (line words.Class (method_index_line v) (ClassAgrees v instances)) (traits v instances fs n) (λ h. refl) (trait_list-lawful v instances n).inside
-      (λ a. apart (20 ∷ []) (18 ∷ 19 ∷ skipped) refl 20 (inl refl) (subst (λ (l : List ℕ). Among 20 l) (trait_list_has v instances n) a)) (map _ cs)
+      many_count (lines_of_word words.Class (method_index_line v) (ClassAgrees v instances)) (traits v instances fs n) (λ h. refl) (trait_list-lawful v instances n).inside
+      (λ a. apart (20 ∷ []) (18 ∷ 19 ∷ skipped_words) refl 20 (inl refl) (subst (λ (l : List ℕ). Among 20 l) (trait_list_has v instances n) a)) (map _ cs)
       ∙ length_map _ cs
 
   -- ---- all tables
@@ -85,25 +85,25 @@ module _ (v : Sizes) (instances n : ℕ) where
       let s = (scripts_on v instances n).shows x.1.1.1.1.1 in
       omega (arith, count_two place p (m ++ (d ++ (i ++ (c ++ s)))), count_two place m (d ++ (i ++ (c ++ s))), count_two place d (i ++ (c ++ s)), count_two place i (c ++ s), count_two place c s)
 
-  later_none : (place : ℕ) → among place (21 ∷ 18 ∷ 19 ∷ skipped) ≡ false → nat_eq 22 place ≡ false → among place (23 ∷ 24 ∷ 18 ∷ 19 ∷ skipped) ≡ false → (x : List Script × List Body) → at place (scripts_on v instances n) x ≡ 0
+  later_none : (place : ℕ) → among place (21 ∷ 18 ∷ 19 ∷ skipped_words) ≡ false → nat_eq 22 place ≡ false → among place (23 ∷ 24 ∷ 18 ∷ 19 ∷ skipped_words) ≡ false → (x : List Script × List Body) → at place (scripts_on v instances n) x ≡ 0
   later_none place a b c x =
       omega (
         arith,
         count_two place ((scripts v instances n).shows x.0) ((body_lines v instances n).shows x.1),
-        none place (scripts v instances n) (scripts-lawful v instances n) (not_in place (scripts v instances n).has (21 ∷ 18 ∷ 19 ∷ skipped) (scripts_has v instances n) a) x.0,
+        none place (scripts v instances n) (scripts-lawful v instances n) (not_in place (scripts v instances n).has (21 ∷ 18 ∷ 19 ∷ skipped_words) (scripts_has v instances n) a) x.0,
         bodies_none v instances n place b c x.1,
       )
 
   -- at a place of the pools
-  pool_place : (place : ℕ) → among place (8 ∷ 9 ∷ 10 ∷ 11 ∷ skipped) ≡ false → among place (12 ∷ 13 ∷ []) ≡ false → among place (14 ∷ 15 ∷ 16 ∷ 17 ∷ 18 ∷ 19 ∷ 23 ∷ 25 ∷ skipped) ≡ false → among place (20 ∷ 18 ∷ 19 ∷ skipped) ≡ false → among place (21 ∷ 18 ∷ 19 ∷ skipped) ≡ false → nat_eq 22 place ≡ false → among place (23 ∷ 24 ∷ 18 ∷ 19 ∷ skipped) ≡ false → (x : Outline v instances) → at place (file v instances n) x ≡ at place (pools v instances n) x.0
+  pool_place : (place : ℕ) → among place (8 ∷ 9 ∷ 10 ∷ 11 ∷ skipped_words) ≡ false → among place (12 ∷ 13 ∷ []) ≡ false → among place (14 ∷ 15 ∷ 16 ∷ 17 ∷ 18 ∷ 19 ∷ 23 ∷ 25 ∷ skipped_words) ≡ false → among place (20 ∷ 18 ∷ 19 ∷ skipped_words) ≡ false → among place (21 ∷ 18 ∷ 19 ∷ skipped_words) ≡ false → nat_eq 22 place ≡ false → among place (23 ∷ 24 ∷ 18 ∷ 19 ∷ skipped_words) ≡ false → (x : Outline v instances) → at place (file v instances n) x ≡ at place (pools v instances n) x.0
   pool_place place a b c d e f g x =
       omega (
         arith,
         file_count place x,
-        none place (methods v instances n) (methods-lawful v instances n) (not_in place (methods v instances n).has (8 ∷ 9 ∷ 10 ∷ 11 ∷ skipped) (methods_has v instances n) a) x.1.0,
+        none place (methods v instances n) (methods-lawful v instances n) (not_in place (methods v instances n).has (8 ∷ 9 ∷ 10 ∷ 11 ∷ skipped_words) (methods_has v instances n) a) x.1.0,
         none place (metadata v instances n) (metadata-lawful v instances n) (not_in place (metadata v instances n).has (12 ∷ 13 ∷ []) (metadata_has v instances n) b) x.1.1.0,
-        none place (instance_lines v instances n) (instances-lawful v instances n) (not_in place (instance_lines v instances n).has (14 ∷ 15 ∷ 16 ∷ 17 ∷ 18 ∷ 19 ∷ 23 ∷ 25 ∷ skipped) (instances_has v instances n) c) x.1.1.1.0,
-        none place (classes v instances n) (classes-lawful v instances n) (not_in place (classes v instances n).has (20 ∷ 18 ∷ 19 ∷ skipped) (classes_has v instances n) d) x.1.1.1.1.0,
+        none place (instance_lines v instances n) (instances-lawful v instances n) (not_in place (instance_lines v instances n).has (14 ∷ 15 ∷ 16 ∷ 17 ∷ 18 ∷ 19 ∷ 23 ∷ 25 ∷ skipped_words) (instances_has v instances n) c) x.1.1.1.0,
+        none place (classes v instances n) (classes-lawful v instances n) (not_in place (classes v instances n).has (20 ∷ 18 ∷ 19 ∷ skipped_words) (classes_has v instances n) d) x.1.1.1.1.0,
         later_none place e f g x.1.1.1.1.1,
       )
 
@@ -115,8 +115,8 @@ module _ (v : Sizes) (instances n : ℕ) where
         none 8 (pools v instances n) (pools-lawful v instances n) (not_in 8 (pools v instances n).has (1 ∷ 2 ∷ 3 ∷ 4 ∷ 5 ∷ 6 ∷ 7 ∷ []) (pools_has v instances n) refl) x.0,
         method_count x.1.0,
         none 8 (metadata v instances n) (metadata-lawful v instances n) (not_in 8 (metadata v instances n).has (12 ∷ 13 ∷ []) (metadata_has v instances n) refl) x.1.1.0,
-        none 8 (instance_lines v instances n) (instances-lawful v instances n) (not_in 8 (instance_lines v instances n).has (14 ∷ 15 ∷ 16 ∷ 17 ∷ 18 ∷ 19 ∷ 23 ∷ 25 ∷ skipped) (instances_has v instances n) refl) x.1.1.1.0,
-        none 8 (classes v instances n) (classes-lawful v instances n) (not_in 8 (classes v instances n).has (20 ∷ 18 ∷ 19 ∷ skipped) (classes_has v instances n) refl) x.1.1.1.1.0,
+        none 8 (instance_lines v instances n) (instances-lawful v instances n) (not_in 8 (instance_lines v instances n).has (14 ∷ 15 ∷ 16 ∷ 17 ∷ 18 ∷ 19 ∷ 23 ∷ 25 ∷ skipped_words) (instances_has v instances n) refl) x.1.1.1.0,
+        none 8 (classes v instances n) (classes-lawful v instances n) (not_in 8 (classes v instances n).has (20 ∷ 18 ∷ 19 ∷ skipped_words) (classes_has v instances n) refl) x.1.1.1.1.0,
         later_none 8 refl refl refl x.1.1.1.1.1,
       )
 
@@ -126,10 +126,10 @@ module _ (v : Sizes) (instances n : ℕ) where
         arith,
         file_count 12 x,
         none 12 (pools v instances n) (pools-lawful v instances n) (not_in 12 (pools v instances n).has (1 ∷ 2 ∷ 3 ∷ 4 ∷ 5 ∷ 6 ∷ 7 ∷ []) (pools_has v instances n) refl) x.0,
-        none 12 (methods v instances n) (methods-lawful v instances n) (not_in 12 (methods v instances n).has (8 ∷ 9 ∷ 10 ∷ 11 ∷ skipped) (methods_has v instances n) refl) x.1.0,
+        none 12 (methods v instances n) (methods-lawful v instances n) (not_in 12 (methods v instances n).has (8 ∷ 9 ∷ 10 ∷ 11 ∷ skipped_words) (methods_has v instances n) refl) x.1.0,
         metadata_count x.1.1.0,
-        none 12 (instance_lines v instances n) (instances-lawful v instances n) (not_in 12 (instance_lines v instances n).has (14 ∷ 15 ∷ 16 ∷ 17 ∷ 18 ∷ 19 ∷ 23 ∷ 25 ∷ skipped) (instances_has v instances n) refl) x.1.1.1.0,
-        none 12 (classes v instances n) (classes-lawful v instances n) (not_in 12 (classes v instances n).has (20 ∷ 18 ∷ 19 ∷ skipped) (classes_has v instances n) refl) x.1.1.1.1.0,
+        none 12 (instance_lines v instances n) (instances-lawful v instances n) (not_in 12 (instance_lines v instances n).has (14 ∷ 15 ∷ 16 ∷ 17 ∷ 18 ∷ 19 ∷ 23 ∷ 25 ∷ skipped_words) (instances_has v instances n) refl) x.1.1.1.0,
+        none 12 (classes v instances n) (classes-lawful v instances n) (not_in 12 (classes v instances n).has (20 ∷ 18 ∷ 19 ∷ skipped_words) (classes_has v instances n) refl) x.1.1.1.1.0,
         later_none 12 refl refl refl x.1.1.1.1.1,
       )
 
@@ -139,10 +139,10 @@ module _ (v : Sizes) (instances n : ℕ) where
         arith,
         file_count 14 x,
         none 14 (pools v instances n) (pools-lawful v instances n) (not_in 14 (pools v instances n).has (1 ∷ 2 ∷ 3 ∷ 4 ∷ 5 ∷ 6 ∷ 7 ∷ []) (pools_has v instances n) refl) x.0,
-        none 14 (methods v instances n) (methods-lawful v instances n) (not_in 14 (methods v instances n).has (8 ∷ 9 ∷ 10 ∷ 11 ∷ skipped) (methods_has v instances n) refl) x.1.0,
+        none 14 (methods v instances n) (methods-lawful v instances n) (not_in 14 (methods v instances n).has (8 ∷ 9 ∷ 10 ∷ 11 ∷ skipped_words) (methods_has v instances n) refl) x.1.0,
         none 14 (metadata v instances n) (metadata-lawful v instances n) (not_in 14 (metadata v instances n).has (12 ∷ 13 ∷ []) (metadata_has v instances n) refl) x.1.1.0,
         instance_count x.1.1.1.0,
-        none 14 (classes v instances n) (classes-lawful v instances n) (not_in 14 (classes v instances n).has (20 ∷ 18 ∷ 19 ∷ skipped) (classes_has v instances n) refl) x.1.1.1.1.0,
+        none 14 (classes v instances n) (classes-lawful v instances n) (not_in 14 (classes v instances n).has (20 ∷ 18 ∷ 19 ∷ skipped_words) (classes_has v instances n) refl) x.1.1.1.1.0,
         later_none 14 refl refl refl x.1.1.1.1.1,
       )
 
@@ -152,25 +152,25 @@ module _ (v : Sizes) (instances n : ℕ) where
         arith,
         file_count 20 x,
         none 20 (pools v instances n) (pools-lawful v instances n) (not_in 20 (pools v instances n).has (1 ∷ 2 ∷ 3 ∷ 4 ∷ 5 ∷ 6 ∷ 7 ∷ []) (pools_has v instances n) refl) x.0,
-        none 20 (methods v instances n) (methods-lawful v instances n) (not_in 20 (methods v instances n).has (8 ∷ 9 ∷ 10 ∷ 11 ∷ skipped) (methods_has v instances n) refl) x.1.0,
+        none 20 (methods v instances n) (methods-lawful v instances n) (not_in 20 (methods v instances n).has (8 ∷ 9 ∷ 10 ∷ 11 ∷ skipped_words) (methods_has v instances n) refl) x.1.0,
         none 20 (metadata v instances n) (metadata-lawful v instances n) (not_in 20 (metadata v instances n).has (12 ∷ 13 ∷ []) (metadata_has v instances n) refl) x.1.1.0,
-        none 20 (instance_lines v instances n) (instances-lawful v instances n) (not_in 20 (instance_lines v instances n).has (14 ∷ 15 ∷ 16 ∷ 17 ∷ 18 ∷ 19 ∷ 23 ∷ 25 ∷ skipped) (instances_has v instances n) refl) x.1.1.1.0,
+        none 20 (instance_lines v instances n) (instances-lawful v instances n) (not_in 20 (instance_lines v instances n).has (14 ∷ 15 ∷ 16 ∷ 17 ∷ 18 ∷ 19 ∷ 23 ∷ 25 ∷ skipped_words) (instances_has v instances n) refl) x.1.1.1.0,
         class_count x.1.1.1.1.0,
         later_none 20 refl refl refl x.1.1.1.1.1,
       )
 
   -- ---- pools
 
-  pools_count : (place : ℕ) (x : PoolValues v instances) → at place (pools v instances n) x ≡ at place (flat fs words.Int int_line n) x.0 + (at place (flat fs words.UInt uint_line n) x.1.0 + (at place (flat fs words.Double double_line n) x.1.1.0 + (at place (flat fs words.Text string_line n) x.1.1.1.0 + (at place (flat fs words.Namespace (namespace_line v) n) x.1.1.1.1.0 + (at place (flat fs words.Set (set_line v) n) x.1.1.1.1.1.0 + at place (flat fs words.Name (name_line v) n) x.1.1.1.1.1.1)))))
+  pools_count : (place : ℕ) (x : PoolValues v instances) → at place (pools v instances n) x ≡ at place (flat_lines fs words.Int int_line n) x.0 + (at place (flat_lines fs words.UInt uint_line n) x.1.0 + (at place (flat_lines fs words.Double double_line n) x.1.1.0 + (at place (flat_lines fs words.Text string_line n) x.1.1.1.0 + (at place (flat_lines fs words.Namespace (namespace_line v) n) x.1.1.1.1.0 + (at place (flat_lines fs words.Set (set_line v) n) x.1.1.1.1.1.0 + at place (flat_lines fs words.Name (name_line v) n) x.1.1.1.1.1.1)))))
   unfolding pools
   pools_count place x =
-      let a = (flat fs words.Int int_line n).shows x.0 in
-      let b = (flat fs words.UInt uint_line n).shows x.1.0 in
-      let c = (flat fs words.Double double_line n).shows x.1.1.0 in
-      let d = (flat fs words.Text string_line n).shows x.1.1.1.0 in
-      let e = (flat fs words.Namespace (namespace_line v) n).shows x.1.1.1.1.0 in
-      let f = (flat fs words.Set (set_line v) n).shows x.1.1.1.1.1.0 in
-      let g = (flat fs words.Name (name_line v) n).shows x.1.1.1.1.1.1 in
+      let a = (flat_lines fs words.Int int_line n).shows x.0 in
+      let b = (flat_lines fs words.UInt uint_line n).shows x.1.0 in
+      let c = (flat_lines fs words.Double double_line n).shows x.1.1.0 in
+      let d = (flat_lines fs words.Text string_line n).shows x.1.1.1.0 in
+      let e = (flat_lines fs words.Namespace (namespace_line v) n).shows x.1.1.1.1.0 in
+      let f = (flat_lines fs words.Set (set_line v) n).shows x.1.1.1.1.1.0 in
+      let g = (flat_lines fs words.Name (name_line v) n).shows x.1.1.1.1.1.1 in
       omega (arith, count_two place a (b ++ (c ++ (d ++ (e ++ (f ++ g))))), count_two place b (c ++ (d ++ (e ++ (f ++ g)))), count_two place c (d ++ (e ++ (f ++ g))), count_two place d (e ++ (f ++ g)), count_two place e (f ++ g), count_two place f g)
 
   -- the sizes of the pools
@@ -197,8 +197,8 @@ module _ (v : Sizes) (instances n : ℕ) where
 
   -- ---- the rows of a value
 
-  row_count : (place : ℕ) (rs : List Row) (x : Outline v instances) → nat_eq 23 place ≡ false → nat_eq 0 place ≡ false → Match shows_operands rs (rows.lines_of (file v instances n) x) → count_all place rs ≡ at place (file v instances n) x
-  row_count place rs x labels version match = count_all-match place shows_operands labels (rows.lines_of (file v instances n) x) rs match ∙ rw version refl
+  row_count : (place : ℕ) (rs : List Row) (x : Outline v instances) → nat_eq 23 place ≡ false → nat_eq 0 place ≡ false → Match shows_operands rs (rows.lines_of_value (file v instances n) x) → count_all place rs ≡ at place (file v instances n) x
+  row_count place rs x labels version match = count_all-match place shows_operands labels (rows.lines_of_value (file v instances n) x) rs match ∙ rw version refl
 
   -- How many lines of each table there are.
   pub record AreCounted (rs : List Row) (x : Outline v instances) : Type 0 where
@@ -214,7 +214,7 @@ module _ (v : Sizes) (instances n : ℕ) where
     pub instance_list : count_all 14 rs ≡ length x.1.1.1.0
     pub classes : count_all 20 rs ≡ length x.1.1.1.1.0
 
-  pub are_counted : (rs : List Row) (x : Outline v instances) → Match shows_operands rs (rows.lines_of (file v instances n) x) → AreCounted rs x
+  pub are_counted : (rs : List Row) (x : Outline v instances) → Match shows_operands rs (rows.lines_of_value (file v instances n) x) → AreCounted rs x
   are_counted rs x match =
       let p = pools_counted x.0 in
       record {

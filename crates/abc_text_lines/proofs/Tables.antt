@@ -17,9 +17,9 @@ use Rattle.abc_file_types.specs.declared.traits.TraitInfo.{TraitInfo}
 use Rattle.abc_file_types.specs.CodeBytes.{code_len}
 use Rattle.abc_file_types.specs.Methods.{has_flag}
 use Rattle.abc_text_lines.specs.Lines.{Row, Shown, places_shown}
-use Rattle.abc_text_lines.specs.Rows.{Faults, both, many, option_shown, optional}
-use Rattle.abc_text_lines.specs.Law.{Among, IsFree, Lawful, Match, Next}
-use Rattle.abc_text_lines.specs.Wordlines.{Rules, always, among, count_all, count_in, count_lines, faults_of, flat, line, shows_operands}
+use Rattle.abc_text_lines.specs.Rows.{Faults, both_rows, many, option_shown, optional}
+use Rattle.abc_text_lines.specs.Law.{Among, IsLineFree, Lawful, Match, Next}
+use Rattle.abc_text_lines.specs.Wordlines.{Rules, always, among, count_all, count_in, count_lines, faults_by_rules, flat_lines, lines_of_word, shows_operands}
 use Rattle.abc_text_lines.proofs.Counts.{count_in-none, flat_count, many_none}
 use Rattle.abc_text_lines.proofs.Exact.{both-lawful}
 use Rattle.abc_text_lines.proofs.Many.{eq_refl, eq_true, image-lawful, many-lawful, map_back}
@@ -27,7 +27,7 @@ use Rattle.abc_text_lines.proofs.Pieces.{Among-right}
 use Rattle.abc_text_lines.proofs.Optional.{optional-lawful}
 use Rattle.abc_text_lines.proofs.Wordlines.{Agrees, IsClear, agrees_always, apart, closed-lawful, flat-lawful, line-keeps, yes_among}
 use Rattle.abc_text_lines.specs.Lineforms.{body_line, entry_line, implements_line, instance_line, method_index_line, method_line, number_line, option_line, param_line, protected_line, string_index_line}
-use Rattle.abc_text_lines.specs.File.{BodyAgrees, ClassAgrees, InstanceAgrees, InstanceBelow, IsBalanced, MethodAgrees, body_below, body_lines, body_part, classes, count_unless, ends_body, extra, faults, instance_below, instance_counts, instance_lines, instance_part, long_code, metadata, method_below, method_counts, method_part, methods, others, plain_rules, rules, scripts, skipped, traits, where_set}
+use Rattle.abc_text_lines.specs.File.{BodyAgrees, ClassAgrees, InstanceAgrees, InstanceBelow, IsBalanced, MethodAgrees, body_below, body_lines, body_part, classes, count_unless, ends_body, extra, faults, instance_below, instance_counts, instance_lines, instance_part, long_code, metadata, method_below, method_counts, method_part, methods, others, plain_rules, rules, scripts, skipped_words, traits, where_set}
 use Rattle.abc_text_lines.proofs.Below.{body_below-lawful, body_below_none, count_fine, count_two, counted_below, flat_none, free_word, traits-lawful, traits_has, traits_starts}
 use Rattle.abc_text_lines.proofs.Forms.{body-are, entry-are, implements-are, instance-are, method-are, method_index-are, number-are, option-are, param-are, protected-are, string_index-are}
 
@@ -96,7 +96,7 @@ module _ (v : Sizes) (instances : ℕ) where
   trait_list_starts : (n : ℕ) → (traits v instances fs n).starts ≡ 18 ∷ []
   trait_list_starts n = traits_starts v instances given all (λ w labels tokens. refl) (λ row after w. refl) extra_none n
 
-  pub trait_list_has : (n : ℕ) → (traits v instances fs n).has ≡ 18 ∷ 19 ∷ skipped
+  pub trait_list_has : (n : ℕ) → (traits v instances fs n).has ≡ 18 ∷ 19 ∷ skipped_words
   trait_list_has n = traits_has v instances given all (λ w labels tokens. refl) (λ row after w. refl) extra_none n
 
   -- a line's other faults where there are none
@@ -112,10 +112,10 @@ module _ (v : Sizes) (instances : ℕ) where
     pub method_below-lawful : Lawful given shows_operands fs n (method_below v instances n)
     unfolding method_below
     method_below-lawful =
-        closed-lawful given shows_operands fs n skipped (both (flat fs words.Param (param_line v) n) (both (flat fs words.Optional (option_line v) n) (flat fs words.ParamName number_line n)))
-        (both-lawful given shows_operands fs n (flat fs words.Param (param_line v) n) (both (flat fs words.Optional (option_line v) n) (flat fs words.ParamName number_line n))
+        closed-lawful given shows_operands fs n skipped_words (both_rows (flat_lines fs words.Param (param_line v) n) (both_rows (flat_lines fs words.Optional (option_line v) n) (flat_lines fs words.ParamName number_line n)))
+        (both-lawful given shows_operands fs n (flat_lines fs words.Param (param_line v) n) (both_rows (flat_lines fs words.Optional (option_line v) n) (flat_lines fs words.ParamName number_line n))
         (flat-lawful given all words.Param (param_line v) (λ e. absurd (omega arith)) (λ labels tokens. refl) (free words.Param (λ e. absurd (omega arith)) (λ row after. refl)) (param-are v) n)
-        (both-lawful given shows_operands fs n (flat fs words.Optional (option_line v) n) (flat fs words.ParamName number_line n)
+        (both-lawful given shows_operands fs n (flat_lines fs words.Optional (option_line v) n) (flat_lines fs words.ParamName number_line n)
         (flat-lawful given all words.Optional (option_line v) (λ e. absurd (omega arith)) (λ labels tokens. refl) (free words.Optional (λ e. absurd (omega arith)) (λ row after. refl)) (option-are v) n)
         (flat-lawful given all words.ParamName number_line (λ e. absurd (omega arith)) (λ labels tokens. refl) (free words.ParamName (λ e. absurd (omega arith)) (λ row after. refl)) number-are n)
         (apart (11 ∷ []) (10 ∷ []) refl))
@@ -127,12 +127,12 @@ module _ (v : Sizes) (instances : ℕ) where
       options : count_lines method_part 10 (front ++ rest) ≡ length y.1.0
       names : count_lines method_part 11 (front ++ rest) ≡ length y.1.1
 
-    method_counted : (front rest : List Row) (y : List ℕ × (List OptionValue × List ℕ)) → Match shows_operands front ((method_below v instances n).shows y) → IsFree (method_below v instances n) rest → MethodCounted front rest y
+    method_counted : (front rest : List Row) (y : List ℕ × (List OptionValue × List ℕ)) → Match shows_operands front ((method_below v instances n).shows y) → IsLineFree (method_below v instances n) rest → MethodCounted front rest y
     unfolding method_below
     method_counted front rest y match open_ =
-        let p = (flat fs words.Param (param_line v) n).shows y.0 in
-        let o = (flat fs words.Optional (option_line v) n).shows y.1.0 in
-        let q = (flat fs words.ParamName number_line n).shows y.1.1 in
+        let p = (flat_lines fs words.Param (param_line v) n).shows y.0 in
+        let o = (flat_lines fs words.Optional (option_line v) n).shows y.1.0 in
+        let q = (flat_lines fs words.ParamName number_line n).shows y.1.1 in
         let at = λ (place : ℕ). count_two place p (o ++ q) in
         let at2 = λ (place : ℕ). count_two place o q in
         let one = λ (place : ℕ). (count_two place o q) in
@@ -162,9 +162,9 @@ module _ (v : Sizes) (instances : ℕ) where
     pub methods-lawful : Lawful given shows_operands fs n (methods v instances n)
     unfolding methods
     methods-lawful =
-        image-lawful given shows_operands fs n _ _ (many fs (line words.Method (method_line v) (MethodAgrees v instances)) (method_below v instances n) n)
+        image-lawful given shows_operands fs n _ _ (many fs (lines_of_word words.Method (method_line v) (MethodAgrees v instances)) (method_below v instances n) n)
         (map_back _ _ (λ x. refl)) (map_back _ _ (λ m. refl))
-        (many-lawful given shows_operands fs (line words.Method (method_line v) (MethodAgrees v instances)) (method_below v instances n)
+        (many-lawful given shows_operands fs (lines_of_word words.Method (method_line v) (MethodAgrees v instances)) (method_below v instances n)
         (line-keeps given all words.Method (method_line v) (MethodAgrees v instances) (method_below v instances n) (λ e. absurd (omega arith)) (λ labels tokens. refl) (method-are v) method_agrees)
         (λ e. absurd (omega arith)) (λ a. apart (8 ∷ []) method_part refl 8 (inl refl) (subst (λ (l : List ℕ). Among 8 l) method_below_has a)) method_below-lawful.inside n method_below-lawful)
 
@@ -174,39 +174,39 @@ module _ (v : Sizes) (instances : ℕ) where
     unfolding metadata
     metadata-lawful =
         let entries = flat-lawful given all words.Entry (entry_line v) (λ e. absurd (omega arith)) (λ labels tokens. refl) (free words.Entry (λ e. absurd (omega arith)) (λ row after. refl)) (entry-are v) n in
-        many-lawful given shows_operands fs (line words.Metadata (string_index_line v) always) (flat fs words.Entry (entry_line v) n)
-        (line-keeps given all words.Metadata (string_index_line v) always (flat fs words.Entry (entry_line v) n) (λ e. absurd (omega arith)) (λ labels tokens. refl) (string_index-are v) (agrees_always given all words.Metadata (string_index_line v) (flat fs words.Entry (entry_line v) n) (free words.Metadata (λ e. absurd (omega arith)) (λ row after. refl))))
+        many-lawful given shows_operands fs (lines_of_word words.Metadata (string_index_line v) always) (flat_lines fs words.Entry (entry_line v) n)
+        (line-keeps given all words.Metadata (string_index_line v) always (flat_lines fs words.Entry (entry_line v) n) (λ e. absurd (omega arith)) (λ labels tokens. refl) (string_index-are v) (agrees_always given all words.Metadata (string_index_line v) (flat_lines fs words.Entry (entry_line v) n) (free words.Metadata (λ e. absurd (omega arith)) (λ row after. refl))))
         (λ e. absurd (omega arith)) (λ a. apart (12 ∷ []) (13 ∷ []) refl 12 (inl refl) a) entries.inside n entries
 
     -- ---- instances
 
-    initializer-lawful : Lawful given shows_operands fs n (optional fs (line words.Initializer (method_index_line v) always) (traits v instances fs n))
+    initializer-lawful : Lawful given shows_operands fs n (optional fs (lines_of_word words.Initializer (method_index_line v) always) (traits v instances fs n))
     initializer-lawful =
-        optional-lawful given shows_operands fs (line words.Initializer (method_index_line v) always) (traits v instances fs n)
+        optional-lawful given shows_operands fs (lines_of_word words.Initializer (method_index_line v) always) (traits v instances fs n)
         (line-keeps given all words.Initializer (method_index_line v) always (traits v instances fs n) (λ e. absurd (omega arith)) (λ labels tokens. refl) (method_index-are v) (agrees_always given all words.Initializer (method_index_line v) (traits v instances fs n) (free words.Initializer (λ e. absurd (omega arith)) (λ row after. refl))))
         (λ e. absurd (omega arith)) (trait_list-lawful n).inside n (trait_list-lawful n)
 
     pub instance_below-lawful : Lawful given shows_operands fs n (instance_below v instances n)
     unfolding instance_below
     instance_below-lawful =
-        let iinit = optional fs (line words.Initializer (method_index_line v) always) (traits v instances fs n) in
-        closed-lawful given shows_operands fs n skipped (both (flat fs words.Protected (protected_line v) n) (both (flat fs words.Implements (implements_line v) n) (optional fs (line words.Initializer (method_index_line v) always) (traits v instances fs n))))
-        (both-lawful given shows_operands fs n (flat fs words.Protected (protected_line v) n) (both (flat fs words.Implements (implements_line v) n) (optional fs (line words.Initializer (method_index_line v) always) (traits v instances fs n)))
+        let iinit = optional fs (lines_of_word words.Initializer (method_index_line v) always) (traits v instances fs n) in
+        closed-lawful given shows_operands fs n skipped_words (both_rows (flat_lines fs words.Protected (protected_line v) n) (both_rows (flat_lines fs words.Implements (implements_line v) n) (optional fs (lines_of_word words.Initializer (method_index_line v) always) (traits v instances fs n))))
+        (both-lawful given shows_operands fs n (flat_lines fs words.Protected (protected_line v) n) (both_rows (flat_lines fs words.Implements (implements_line v) n) (optional fs (lines_of_word words.Initializer (method_index_line v) always) (traits v instances fs n)))
         (flat-lawful given all words.Protected (protected_line v) (λ e. absurd (omega arith)) (λ labels tokens. refl) (free words.Protected (λ e. absurd (omega arith)) (λ row after. refl)) (protected-are v) n)
-        (both-lawful given shows_operands fs n (flat fs words.Implements (implements_line v) n) (optional fs (line words.Initializer (method_index_line v) always) (traits v instances fs n))
+        (both-lawful given shows_operands fs n (flat_lines fs words.Implements (implements_line v) n) (optional fs (lines_of_word words.Initializer (method_index_line v) always) (traits v instances fs n))
         (flat-lawful given all words.Implements (implements_line v) (λ e. absurd (omega arith)) (λ labels tokens. refl) (free words.Implements (λ e. absurd (omega arith)) (λ row after. refl)) (implements-are v) n)
         initializer-lawful (apart (17 ∷ []) (16 ∷ []) refl))
         (apart (16 ∷ 17 ∷ []) (15 ∷ []) refl))
 
     abbrev initializer_shown : Option (ℕ × List TraitInfo) → List Shown
-    initializer_shown o = option_shown (line words.Initializer (method_index_line v) always) (traits v instances fs n) o
+    initializer_shown o = option_shown (lines_of_word words.Initializer (method_index_line v) always) (traits v instances fs n) o
 
-    traits_counted : (place : ℕ) → (Among place (18 ∷ 19 ∷ skipped) → ⊥) → (ts : List TraitInfo) → count_in place (places_shown ((traits v instances fs n).shows ts)) ≡ 0
+    traits_counted : (place : ℕ) → (Among place (18 ∷ 19 ∷ skipped_words) → ⊥) → (ts : List TraitInfo) → count_in place (places_shown ((traits v instances fs n).shows ts)) ≡ 0
     traits_counted place other ts = count_in-none place (places_shown ((traits v instances fs n).shows ts)) (traits v instances fs n).has ((trait_list-lawful n).inside ts) (λ h. other (subst (λ (l : List ℕ). Among place l) (trait_list_has n) h))
 
     no_initializer : (o : Option (ℕ × List TraitInfo)) → count_in 15 (places_shown (initializer_shown o)) ≡ 0
     no_initializer None = refl
-    no_initializer (Some x) = traits_counted 15 (apart (15 ∷ []) (18 ∷ 19 ∷ skipped) refl 15 (inl refl)) x.1
+    no_initializer (Some x) = traits_counted 15 (apart (15 ∷ []) (18 ∷ 19 ∷ skipped_words) refl 15 (inl refl)) x.1
 
     one_initializer : (o : Option (ℕ × List TraitInfo)) → nat_le 1 (count_in 17 (places_shown (initializer_shown o))) ≡ true → IsSome o
     one_initializer None e = absurd (let no_ : false ≡ true = e in cc)
@@ -214,18 +214,18 @@ module _ (v : Sizes) (instances : ℕ) where
 
     some_initializer : (o : Option (ℕ × List TraitInfo)) → IsSome o → count_in 17 (places_shown (initializer_shown o)) ≡ 1
     some_initializer None some = absurd cc
-    some_initializer (Some x) some = omega (arith, traits_counted 17 (apart (17 ∷ []) (18 ∷ 19 ∷ skipped) refl 17 (inl refl)) x.1)
+    some_initializer (Some x) some = omega (arith, traits_counted 17 (apart (17 ∷ []) (18 ∷ 19 ∷ skipped_words) refl 17 (inl refl)) x.1)
 
     -- the counts of the lines below an instance
     record InstanceCounted (front rest : List Row) (y : InstanceBelow v instances) : Type 0 where
       protected : count_lines instance_part 15 (front ++ rest) ≡ length y.0
       initializer : count_lines instance_part 17 (front ++ rest) ≡ count_in 17 (places_shown (initializer_shown y.1.1))
 
-    instance_counted : (front rest : List Row) (y : InstanceBelow v instances) → Match shows_operands front ((instance_below v instances n).shows y) → IsFree (instance_below v instances n) rest → InstanceCounted front rest y
+    instance_counted : (front rest : List Row) (y : InstanceBelow v instances) → Match shows_operands front ((instance_below v instances n).shows y) → IsLineFree (instance_below v instances n) rest → InstanceCounted front rest y
     unfolding instance_below traits
     instance_counted front rest y match open_ =
-        let p = (flat fs words.Protected (protected_line v) n).shows y.0 in
-        let q = (flat fs words.Implements (implements_line v) n).shows y.1.0 in
+        let p = (flat_lines fs words.Protected (protected_line v) n).shows y.0 in
+        let q = (flat_lines fs words.Implements (implements_line v) n).shows y.1.0 in
         let o = initializer_shown y.1.1 in
         record {
           protected = counted_below instance_part 15 (instance_below v instances n) refl refl refl refl refl instance_below-lawful.inside y front rest match open_ ∙ omega (arith, count_two 15 p (q ++ o), count_two 15 q o, flat_count words.Protected (protected_line v) y.0, flat_none 15 words.Implements (implements_line v) refl y.1.0, no_initializer y.1.1);
@@ -261,16 +261,16 @@ module _ (v : Sizes) (instances : ℕ) where
           (rw (x, z, u) refl, extra_of row after words.Instance word (λ e. cc));
     }
 
-    pub instance_below_has : (instance_below v instances n).has ≡ 15 ∷ 16 ∷ 17 ∷ 18 ∷ 19 ∷ 23 ∷ 25 ∷ skipped
+    pub instance_below_has : (instance_below v instances n).has ≡ 15 ∷ 16 ∷ 17 ∷ 18 ∷ 19 ∷ 23 ∷ 25 ∷ skipped_words
     unfolding instance_below traits
     instance_below_has = refl
 
     pub instances-lawful : Lawful given shows_operands fs n (instance_lines v instances n)
     unfolding instance_lines
     instances-lawful =
-        many-lawful given shows_operands fs (line words.Instance (instance_line v) (InstanceAgrees v instances)) (instance_below v instances n)
+        many-lawful given shows_operands fs (lines_of_word words.Instance (instance_line v) (InstanceAgrees v instances)) (instance_below v instances n)
         (line-keeps given all words.Instance (instance_line v) (InstanceAgrees v instances) (instance_below v instances n) (λ e. absurd (omega arith)) (λ labels tokens. refl) (instance-are v) instance_agrees)
-        (λ e. absurd (omega arith)) (λ a. apart (14 ∷ []) (15 ∷ 16 ∷ 17 ∷ 18 ∷ 19 ∷ 23 ∷ 25 ∷ skipped) refl 14 (inl refl) (subst (λ (l : List ℕ). Among 14 l) instance_below_has a)) instance_below-lawful.inside n instance_below-lawful
+        (λ e. absurd (omega arith)) (λ a. apart (14 ∷ []) (15 ∷ 16 ∷ 17 ∷ 18 ∷ 19 ∷ 23 ∷ 25 ∷ skipped_words) refl 14 (inl refl) (subst (λ (l : List ℕ). Among 14 l) instance_below_has a)) instance_below-lawful.inside n instance_below-lawful
 
     -- ---- classes and scripts
 
@@ -283,27 +283,27 @@ module _ (v : Sizes) (instances : ℕ) where
     pub classes-lawful : Lawful given shows_operands fs n (classes v instances n)
     unfolding classes
     classes-lawful =
-        image-lawful given shows_operands fs n _ _ (many fs (line words.Class (method_index_line v) (ClassAgrees v instances)) (traits v instances fs n) n)
+        image-lawful given shows_operands fs n _ _ (many fs (lines_of_word words.Class (method_index_line v) (ClassAgrees v instances)) (traits v instances fs n) n)
         (map_back _ _ (λ x. refl)) (map_back _ _ (λ c. refl))
-        (many-lawful given shows_operands fs (line words.Class (method_index_line v) (ClassAgrees v instances)) (traits v instances fs n)
+        (many-lawful given shows_operands fs (lines_of_word words.Class (method_index_line v) (ClassAgrees v instances)) (traits v instances fs n)
         (line-keeps given all words.Class (method_index_line v) (ClassAgrees v instances) (traits v instances fs n) (λ e. absurd (omega arith)) (λ labels tokens. refl) (method_index-are v) class_agrees)
-        (λ e. absurd (omega arith)) (λ a. apart (20 ∷ []) (18 ∷ 19 ∷ skipped) refl 20 (inl refl) (subst (λ (l : List ℕ). Among 20 l) (trait_list_has n) a)) (trait_list-lawful n).inside n (trait_list-lawful n))
+        (λ e. absurd (omega arith)) (λ a. apart (20 ∷ []) (18 ∷ 19 ∷ skipped_words) refl 20 (inl refl) (subst (λ (l : List ℕ). Among 20 l) (trait_list_has n) a)) (trait_list-lawful n).inside n (trait_list-lawful n))
 
     pub scripts-lawful : Lawful given shows_operands fs n (scripts v instances n)
     unfolding scripts
     scripts-lawful =
-        image-lawful given shows_operands fs n _ _ (many fs (line words.Script (method_index_line v) always) (traits v instances fs n) n)
+        image-lawful given shows_operands fs n _ _ (many fs (lines_of_word words.Script (method_index_line v) always) (traits v instances fs n) n)
         (map_back _ _ (λ x. refl)) (map_back _ _ (λ s. refl))
-        (many-lawful given shows_operands fs (line words.Script (method_index_line v) always) (traits v instances fs n)
+        (many-lawful given shows_operands fs (lines_of_word words.Script (method_index_line v) always) (traits v instances fs n)
         (line-keeps given all words.Script (method_index_line v) always (traits v instances fs n) (λ e. absurd (omega arith)) (λ labels tokens. refl) (method_index-are v) (agrees_always given all words.Script (method_index_line v) (traits v instances fs n) (free words.Script (λ e. absurd (omega arith)) (λ row after. refl))))
-        (λ e. absurd (omega arith)) (λ a. apart (21 ∷ []) (18 ∷ 19 ∷ skipped) refl 21 (inl refl) (subst (λ (l : List ℕ). Among 21 l) (trait_list_has n) a)) (trait_list-lawful n).inside n (trait_list-lawful n))
+        (λ e. absurd (omega arith)) (λ a. apart (21 ∷ []) (18 ∷ 19 ∷ skipped_words) refl 21 (inl refl) (subst (λ (l : List ℕ). Among 21 l) (trait_list_has n) a)) (trait_list-lawful n).inside n (trait_list-lawful n))
 
     -- ---- bodies
 
     below-lawful : Lawful given shows_operands fs n (body_below v instances fs n)
     below-lawful = body_below-lawful v instances given all (λ w labels tokens. refl) (λ row after w. refl) extra_none n
 
-    plain_below-lawful : (m : ℕ) → Lawful given shows_operands (faults_of (plain_rules v instances)) m (body_below v instances (faults_of (plain_rules v instances)) m)
+    plain_below-lawful : (m : ℕ) → Lawful given shows_operands (faults_by_rules (plain_rules v instances)) m (body_below v instances (faults_by_rules (plain_rules v instances)) m)
     plain_below-lawful m = body_below-lawful v instances given (plain_rules v instances) (λ w labels tokens. refl) (λ row after w. refl) (λ row after other. refl) m
 
     ends : (rest : List Row) → ((w : ℕ) → Next rest w → Among w body_part → ⊥) → ends_body v instances rest ≡ true
@@ -314,17 +314,17 @@ module _ (v : Sizes) (instances : ℕ) where
     BelowBody = List Instr × (List Handler × List TraitInfo)
 
     -- what is read of the lines below a body by the plain rules
-    plainly_read : (front rest : List Row) (y : BelowBody) → Match shows_operands front ((body_below v instances fs n).shows y) → (body_below v instances fs n).fits y → IsFree (body_below v instances fs n) rest → ((body_below v instances (faults_of (plain_rules v instances)) (length (front ++ rest))).reads (front ++ rest) ≡ Ok (y, rest)) × (ends_body v instances rest ≡ true)
+    plainly_read : (front rest : List Row) (y : BelowBody) → Match shows_operands front ((body_below v instances fs n).shows y) → (body_below v instances fs n).fits y → IsLineFree (body_below v instances fs n) rest → ((body_below v instances (faults_by_rules (plain_rules v instances)) (length (front ++ rest))).reads (front ++ rest) ≡ Ok (y, rest)) × (ends_body v instances rest ≡ true)
     unfolding body_below traits
     plainly_read front rest y match fit open_ =
-        ((plain_below-lawful (length (front ++ rest))).again y front rest (omega arith) fit match open_, ends rest (λ w h k. open_ w h (Among-right w (23 ∷ 24 ∷ 18 ∷ 19 ∷ skipped) body_part k)))
+        ((plain_below-lawful (length (front ++ rest))).again y front rest (omega arith) fit match open_, ends rest (λ w h k. open_ w h (Among-right w (23 ∷ 24 ∷ 18 ∷ 19 ∷ skipped_words) body_part k)))
 
     body_agrees : Agrees given all words.Body (body_line v) (BodyAgrees v instances) (body_below v instances fs n)
     body_agrees = record {
       fits = λ balanced row front rest y word c match fit open_.
           let after = front ++ rest in
           let p = plainly_read front rest y match fit open_ in
-          let none_ : long_code v instances ((body_below v instances (faults_of (plain_rules v instances)) (length after)).reads after) ≡ [] = ap (λ (w : Word). extra v instances row after w) (sym word) ∙ c.extra in
+          let none_ : long_code v instances ((body_below v instances (faults_by_rules (plain_rules v instances)) (length after)).reads after) ≡ [] = ap (λ (w : Word). extra v instances row after w) (sym word) ∙ c.extra in
           not_long (ends_body v instances rest) (code_len y.0) p.1 (ap (long_code v instances) (sym p.0) ∙ none_);
       again = λ row front rest y word a match fit open_.
           let after = front ++ rest in
@@ -337,16 +337,16 @@ module _ (v : Sizes) (instances : ℕ) where
     body_below_has w h e = apart (22 ∷ []) (body_below v instances fs n).has refl 22 (inl refl) (subst (λ (x : ℕ). Among x (body_below v instances fs n).has) e h)
 
     -- the lines of bodies stand at these places
-    pub bodies_none : (place : ℕ) → nat_eq 22 place ≡ false → among place (23 ∷ 24 ∷ 18 ∷ 19 ∷ skipped) ≡ false → (bs : List Body) → count_in place (places_shown ((body_lines v instances n).shows bs)) ≡ 0
+    pub bodies_none : (place : ℕ) → nat_eq 22 place ≡ false → among place (23 ∷ 24 ∷ 18 ∷ 19 ∷ skipped_words) ≡ false → (bs : List Body) → count_in place (places_shown ((body_lines v instances n).shows bs)) ≡ 0
     unfolding body_lines
     bodies_none place here other bs =
-        many_none place (line words.Body (body_line v) (BodyAgrees v instances)) (body_below v instances fs n) (λ h. here) (λ y. body_below_none v instances given all (λ w labels tokens. refl) (λ row after w. refl) extra_none n place other y) (map _ bs)
+        many_none place (lines_of_word words.Body (body_line v) (BodyAgrees v instances)) (body_below v instances fs n) (λ h. here) (λ y. body_below_none v instances given all (λ w labels tokens. refl) (λ row after w. refl) extra_none n place other y) (map _ bs)
 
     pub bodies-lawful : Lawful given shows_operands fs n (body_lines v instances n)
     unfolding body_lines
     bodies-lawful =
-        image-lawful given shows_operands fs n _ _ (many fs (line words.Body (body_line v) (BodyAgrees v instances)) (body_below v instances fs n) n)
+        image-lawful given shows_operands fs n _ _ (many fs (lines_of_word words.Body (body_line v) (BodyAgrees v instances)) (body_below v instances fs n) n)
         (map_back _ _ (λ x. refl)) (map_back _ _ (λ b. refl))
-        (many-lawful given shows_operands fs (line words.Body (body_line v) (BodyAgrees v instances)) (body_below v instances fs n)
+        (many-lawful given shows_operands fs (lines_of_word words.Body (body_line v) (BodyAgrees v instances)) (body_below v instances fs n)
         (line-keeps given all words.Body (body_line v) (BodyAgrees v instances) (body_below v instances fs n) (λ e. absurd (omega arith)) (λ labels tokens. refl) (body-are v) body_agrees)
         (λ e. absurd (omega arith)) (λ a. body_below_has 22 a refl) below-lawful.inside n below-lawful)

@@ -14,16 +14,16 @@ use Rattle.abc_file_types.specs.declared.tables.Sizes.{Sizes}
 use Rattle.abc_file_types.specs.Methods.{has_flag}
 use Rattle.abc_text_lines.specs.Lines.{Item, Number, Row}
 use Rattle.abc_text_lines.specs.Operands.{any_number, exactly}
-use Rattle.abc_text_lines.specs.Rows.{Faults, Rows, both, is_label, nothing}
-use Rattle.abc_text_lines.specs.Law.{Among, Clean, IsLine, Keeps, Lawful}
-use Rattle.abc_text_lines.specs.Assembly.{IsDetermined}
-use Rattle.abc_text_lines.specs.Wordlines.{always, count_all, count_lines, flat, line, shows_operands}
+use Rattle.abc_text_lines.specs.Rows.{Faults, Rows, both_rows, is_label, empty_rows}
+use Rattle.abc_text_lines.specs.Law.{Among, Clean, IsLine, LineKeeps, Lawful}
+use Rattle.abc_text_lines.specs.Assembly.{IsTextDetermined}
+use Rattle.abc_text_lines.specs.Wordlines.{always, count_all, count_lines, flat_lines, lines_of_word, shows_operands}
 use Rattle.abc_text_lines.proofs.Determined.{determined}
 use Rattle.abc_text_lines.proofs.Exact.{both-lawful}
 use Rattle.abc_text_lines.proofs.Many.{eq_true}
 use Rattle.abc_text_lines.proofs.Wordlines.{agrees_always, apart, clear, flat-lawful, line-keeps, reasons_nil, same_word}
 use Rattle.abc_text_lines.specs.Lineforms.{InstanceHead, double_line, instance_line, int_line, name_line, namespace_line, set_line, string_line, uint_line, version_line}
-use Rattle.abc_text_lines.specs.File.{InstanceBelow, IsBalanced, own, body_lines, class_counts, classes, count_unless, faults, file, instance_below, instance_counts, instance_lines, instance_part, metadata, method_below, methods, others, pools, rules, scripts, skipped, traits, where_set}
+use Rattle.abc_text_lines.specs.File.{InstanceBelow, IsBalanced, own, body_lines, class_counts, classes, count_unless, faults, file, instance_below, instance_counts, instance_lines, instance_part, metadata, method_below, methods, others, pools, rules, scripts, skipped_words, traits, where_set}
 use Rattle.abc_text_lines.proofs.Below.{count_fine}
 use Rattle.abc_text_lines.proofs.Forms.{double-are, int-are, name-are, namespace-are, set-are, string-are, uint-are, version-are}
 use Rattle.abc_text_lines.proofs.Tables.{bodies-lawful, classes-lawful, free, instances-lawful, metadata-lawful, methods-lawful, scripts-lawful}
@@ -36,43 +36,43 @@ module _ (v : Sizes) (instances : ℕ) where
   fs = faults v instances
 
   module _ (n : ℕ) where
-    names-lawful : Lawful given shows_operands fs n (flat fs words.Name (name_line v) n)
+    names-lawful : Lawful given shows_operands fs n (flat_lines fs words.Name (name_line v) n)
     names-lawful = flat-lawful given (rules v instances) words.Name (name_line v) (λ e. absurd (omega arith)) (λ labels tokens. refl) (free v instances words.Name (λ e. absurd (omega arith)) (λ row after. refl)) (name-are v) n
 
-    sets-lawful : Lawful given shows_operands fs n (both (flat fs words.Set (set_line v) n) (flat fs words.Name (name_line v) n))
+    sets-lawful : Lawful given shows_operands fs n (both_rows (flat_lines fs words.Set (set_line v) n) (flat_lines fs words.Name (name_line v) n))
     sets-lawful =
-        both-lawful given shows_operands fs n (flat fs words.Set (set_line v) n) (flat fs words.Name (name_line v) n)
+        both-lawful given shows_operands fs n (flat_lines fs words.Set (set_line v) n) (flat_lines fs words.Name (name_line v) n)
         (flat-lawful given (rules v instances) words.Set (set_line v) (λ e. absurd (omega arith)) (λ labels tokens. refl) (free v instances words.Set (λ e. absurd (omega arith)) (λ row after. refl)) (set-are v) n)
         names-lawful (apart (7 ∷ []) (6 ∷ []) refl)
 
-    spaces-lawful : Lawful given shows_operands fs n (both (flat fs words.Namespace (namespace_line v) n) (both (flat fs words.Set (set_line v) n) (flat fs words.Name (name_line v) n)))
+    spaces-lawful : Lawful given shows_operands fs n (both_rows (flat_lines fs words.Namespace (namespace_line v) n) (both_rows (flat_lines fs words.Set (set_line v) n) (flat_lines fs words.Name (name_line v) n)))
     spaces-lawful =
-        both-lawful given shows_operands fs n (flat fs words.Namespace (namespace_line v) n) (both (flat fs words.Set (set_line v) n) (flat fs words.Name (name_line v) n))
+        both-lawful given shows_operands fs n (flat_lines fs words.Namespace (namespace_line v) n) (both_rows (flat_lines fs words.Set (set_line v) n) (flat_lines fs words.Name (name_line v) n))
         (flat-lawful given (rules v instances) words.Namespace (namespace_line v) (λ e. absurd (omega arith)) (λ labels tokens. refl) (free v instances words.Namespace (λ e. absurd (omega arith)) (λ row after. refl)) (namespace-are v) n)
         sets-lawful (apart (6 ∷ 7 ∷ []) (5 ∷ []) refl)
 
-    strings-lawful : Lawful given shows_operands fs n (both (flat fs words.Text string_line n) (both (flat fs words.Namespace (namespace_line v) n) (both (flat fs words.Set (set_line v) n) (flat fs words.Name (name_line v) n))))
+    strings-lawful : Lawful given shows_operands fs n (both_rows (flat_lines fs words.Text string_line n) (both_rows (flat_lines fs words.Namespace (namespace_line v) n) (both_rows (flat_lines fs words.Set (set_line v) n) (flat_lines fs words.Name (name_line v) n))))
     strings-lawful =
-        both-lawful given shows_operands fs n (flat fs words.Text string_line n) (both (flat fs words.Namespace (namespace_line v) n) (both (flat fs words.Set (set_line v) n) (flat fs words.Name (name_line v) n)))
+        both-lawful given shows_operands fs n (flat_lines fs words.Text string_line n) (both_rows (flat_lines fs words.Namespace (namespace_line v) n) (both_rows (flat_lines fs words.Set (set_line v) n) (flat_lines fs words.Name (name_line v) n)))
         (flat-lawful given (rules v instances) words.Text string_line (λ e. absurd (omega arith)) (λ labels tokens. refl) (free v instances words.Text (λ e. absurd (omega arith)) (λ row after. refl)) string-are n)
         spaces-lawful (apart (5 ∷ 6 ∷ 7 ∷ []) (4 ∷ []) refl)
 
-    doubles-lawful : Lawful given shows_operands fs n (both (flat fs words.Double double_line n) (both (flat fs words.Text string_line n) (both (flat fs words.Namespace (namespace_line v) n) (both (flat fs words.Set (set_line v) n) (flat fs words.Name (name_line v) n)))))
+    doubles-lawful : Lawful given shows_operands fs n (both_rows (flat_lines fs words.Double double_line n) (both_rows (flat_lines fs words.Text string_line n) (both_rows (flat_lines fs words.Namespace (namespace_line v) n) (both_rows (flat_lines fs words.Set (set_line v) n) (flat_lines fs words.Name (name_line v) n)))))
     doubles-lawful =
-        both-lawful given shows_operands fs n (flat fs words.Double double_line n) (both (flat fs words.Text string_line n) (both (flat fs words.Namespace (namespace_line v) n) (both (flat fs words.Set (set_line v) n) (flat fs words.Name (name_line v) n))))
+        both-lawful given shows_operands fs n (flat_lines fs words.Double double_line n) (both_rows (flat_lines fs words.Text string_line n) (both_rows (flat_lines fs words.Namespace (namespace_line v) n) (both_rows (flat_lines fs words.Set (set_line v) n) (flat_lines fs words.Name (name_line v) n))))
         (flat-lawful given (rules v instances) words.Double double_line (λ e. absurd (omega arith)) (λ labels tokens. refl) (free v instances words.Double (λ e. absurd (omega arith)) (λ row after. refl)) double-are n)
         strings-lawful (apart (4 ∷ 5 ∷ 6 ∷ 7 ∷ []) (3 ∷ []) refl)
 
-    uints-lawful : Lawful given shows_operands fs n (both (flat fs words.UInt uint_line n) (both (flat fs words.Double double_line n) (both (flat fs words.Text string_line n) (both (flat fs words.Namespace (namespace_line v) n) (both (flat fs words.Set (set_line v) n) (flat fs words.Name (name_line v) n))))))
+    uints-lawful : Lawful given shows_operands fs n (both_rows (flat_lines fs words.UInt uint_line n) (both_rows (flat_lines fs words.Double double_line n) (both_rows (flat_lines fs words.Text string_line n) (both_rows (flat_lines fs words.Namespace (namespace_line v) n) (both_rows (flat_lines fs words.Set (set_line v) n) (flat_lines fs words.Name (name_line v) n))))))
     uints-lawful =
-        both-lawful given shows_operands fs n (flat fs words.UInt uint_line n) (both (flat fs words.Double double_line n) (both (flat fs words.Text string_line n) (both (flat fs words.Namespace (namespace_line v) n) (both (flat fs words.Set (set_line v) n) (flat fs words.Name (name_line v) n)))))
+        both-lawful given shows_operands fs n (flat_lines fs words.UInt uint_line n) (both_rows (flat_lines fs words.Double double_line n) (both_rows (flat_lines fs words.Text string_line n) (both_rows (flat_lines fs words.Namespace (namespace_line v) n) (both_rows (flat_lines fs words.Set (set_line v) n) (flat_lines fs words.Name (name_line v) n)))))
         (flat-lawful given (rules v instances) words.UInt uint_line (λ e. absurd (omega arith)) (λ labels tokens. refl) (free v instances words.UInt (λ e. absurd (omega arith)) (λ row after. refl)) uint-are n)
         doubles-lawful (apart (3 ∷ 4 ∷ 5 ∷ 6 ∷ 7 ∷ []) (2 ∷ []) refl)
 
     pub pools-lawful : Lawful given shows_operands fs n (pools v instances n)
     unfolding pools
     pools-lawful =
-        both-lawful given shows_operands fs n (flat fs words.Int int_line n) (both (flat fs words.UInt uint_line n) (both (flat fs words.Double double_line n) (both (flat fs words.Text string_line n) (both (flat fs words.Namespace (namespace_line v) n) (both (flat fs words.Set (set_line v) n) (flat fs words.Name (name_line v) n))))))
+        both-lawful given shows_operands fs n (flat_lines fs words.Int int_line n) (both_rows (flat_lines fs words.UInt uint_line n) (both_rows (flat_lines fs words.Double double_line n) (both_rows (flat_lines fs words.Text string_line n) (both_rows (flat_lines fs words.Namespace (namespace_line v) n) (both_rows (flat_lines fs words.Set (set_line v) n) (flat_lines fs words.Name (name_line v) n))))))
         (flat-lawful given (rules v instances) words.Int int_line (λ e. absurd (omega arith)) (λ labels tokens. refl) (free v instances words.Int (λ e. absurd (omega arith)) (λ row after. refl)) int-are n)
         uints-lawful (apart (2 ∷ 3 ∷ 4 ∷ 5 ∷ 6 ∷ 7 ∷ []) (1 ∷ []) refl)
 
@@ -82,7 +82,7 @@ module _ (v : Sizes) (instances : ℕ) where
     unfolding pools
     pools_has = refl
 
-    pub methods_has : (methods v instances n).has ≡ 8 ∷ 9 ∷ 10 ∷ 11 ∷ skipped
+    pub methods_has : (methods v instances n).has ≡ 8 ∷ 9 ∷ 10 ∷ 11 ∷ skipped_words
     unfolding methods method_below
     methods_has = refl
 
@@ -90,15 +90,15 @@ module _ (v : Sizes) (instances : ℕ) where
     unfolding metadata
     metadata_has = refl
 
-    pub instances_has : (instance_lines v instances n).has ≡ 14 ∷ 15 ∷ 16 ∷ 17 ∷ 18 ∷ 19 ∷ 23 ∷ 25 ∷ skipped
+    pub instances_has : (instance_lines v instances n).has ≡ 14 ∷ 15 ∷ 16 ∷ 17 ∷ 18 ∷ 19 ∷ 23 ∷ 25 ∷ skipped_words
     unfolding instance_lines instance_below traits
     instances_has = refl
 
-    pub classes_has : (classes v instances n).has ≡ 20 ∷ 18 ∷ 19 ∷ skipped
+    pub classes_has : (classes v instances n).has ≡ 20 ∷ 18 ∷ 19 ∷ skipped_words
     unfolding classes traits
     classes_has = refl
 
-    pub scripts_has : (scripts v instances n).has ≡ 21 ∷ 18 ∷ 19 ∷ skipped
+    pub scripts_has : (scripts v instances n).has ≡ 21 ∷ 18 ∷ 19 ∷ skipped_words
     unfolding scripts traits
     scripts_has = refl
 
@@ -131,31 +131,31 @@ module _ (v : Sizes) (instances : ℕ) where
     apart_at a b s p e f d w x y = d w (subst (λ (l : List ℕ). Among w l) e x) (subst (λ (l : List ℕ). Among w l) f y)
 
     abbrev pub scripts_on : Rows (List Script × List Body)
-    scripts_on = both (scripts v instances n) (body_lines v instances n)
+    scripts_on = both_rows (scripts v instances n) (body_lines v instances n)
 
     pub scripts_on-lawful : Lawful given shows_operands fs n scripts_on
     scripts_on-lawful =
         both-lawful given shows_operands fs n (scripts v instances n) (body_lines v instances n) (scripts-lawful v instances n) (bodies-lawful v instances n)
-        (apart_at _ _ (22 ∷ []) (21 ∷ 18 ∷ 19 ∷ skipped) bodies_starts scripts_has (apart (22 ∷ []) (21 ∷ 18 ∷ 19 ∷ skipped) refl))
+        (apart_at _ _ (22 ∷ []) (21 ∷ 18 ∷ 19 ∷ skipped_words) bodies_starts scripts_has (apart (22 ∷ []) (21 ∷ 18 ∷ 19 ∷ skipped_words) refl))
 
     abbrev pub classes_on : Rows (List ClassInfo × (List Script × List Body))
-    classes_on = both (classes v instances n) scripts_on
+    classes_on = both_rows (classes v instances n) scripts_on
 
     pub classes_on-lawful : Lawful given shows_operands fs n classes_on
     classes_on-lawful =
         both-lawful given shows_operands fs n (classes v instances n) scripts_on (classes-lawful v instances n) scripts_on-lawful
-        (apart_at _ _ (21 ∷ 22 ∷ []) (20 ∷ 18 ∷ 19 ∷ skipped) later_starts classes_has (apart (21 ∷ 22 ∷ []) (20 ∷ 18 ∷ 19 ∷ skipped) refl))
+        (apart_at _ _ (21 ∷ 22 ∷ []) (20 ∷ 18 ∷ 19 ∷ skipped_words) later_starts classes_has (apart (21 ∷ 22 ∷ []) (20 ∷ 18 ∷ 19 ∷ skipped_words) refl))
 
     abbrev pub instances_on : Rows (List (InstanceHead × InstanceBelow v instances) × (List ClassInfo × (List Script × List Body)))
-    instances_on = both (instance_lines v instances n) classes_on
+    instances_on = both_rows (instance_lines v instances n) classes_on
 
     pub instances_on-lawful : Lawful given shows_operands fs n instances_on
     instances_on-lawful =
         both-lawful given shows_operands fs n (instance_lines v instances n) classes_on (instances-lawful v instances n) classes_on-lawful
-        (apart_at _ _ (20 ∷ 21 ∷ 22 ∷ []) (14 ∷ 15 ∷ 16 ∷ 17 ∷ 18 ∷ 19 ∷ 23 ∷ 25 ∷ skipped) class_starts instances_has (apart (20 ∷ 21 ∷ 22 ∷ []) (14 ∷ 15 ∷ 16 ∷ 17 ∷ 18 ∷ 19 ∷ 23 ∷ 25 ∷ skipped) refl))
+        (apart_at _ _ (20 ∷ 21 ∷ 22 ∷ []) (14 ∷ 15 ∷ 16 ∷ 17 ∷ 18 ∷ 19 ∷ 23 ∷ 25 ∷ skipped_words) class_starts instances_has (apart (20 ∷ 21 ∷ 22 ∷ []) (14 ∷ 15 ∷ 16 ∷ 17 ∷ 18 ∷ 19 ∷ 23 ∷ 25 ∷ skipped_words) refl))
 
     abbrev pub metadata_on : Rows (List (ℕ × List (ℕ × ℕ)) × (List (InstanceHead × InstanceBelow v instances) × (List ClassInfo × (List Script × List Body))))
-    metadata_on = both (metadata v instances n) instances_on
+    metadata_on = both_rows (metadata v instances n) instances_on
 
     pub metadata_on-lawful : Lawful given shows_operands fs n metadata_on
     metadata_on-lawful =
@@ -163,12 +163,12 @@ module _ (v : Sizes) (instances : ℕ) where
         (apart_at _ _ (14 ∷ 20 ∷ 21 ∷ 22 ∷ []) (12 ∷ 13 ∷ []) instance_starts metadata_has (apart (14 ∷ 20 ∷ 21 ∷ 22 ∷ []) (12 ∷ 13 ∷ []) refl))
 
     abbrev pub methods_on : Rows (List Method × (List (ℕ × List (ℕ × ℕ)) × (List (InstanceHead × InstanceBelow v instances) × (List ClassInfo × (List Script × List Body)))))
-    methods_on = both (methods v instances n) metadata_on
+    methods_on = both_rows (methods v instances n) metadata_on
 
     pub methods_on-lawful : Lawful given shows_operands fs n methods_on
     methods_on-lawful =
         both-lawful given shows_operands fs n (methods v instances n) metadata_on (methods-lawful v instances n) metadata_on-lawful
-        (apart_at _ _ (12 ∷ 14 ∷ 20 ∷ 21 ∷ 22 ∷ []) (8 ∷ 9 ∷ 10 ∷ 11 ∷ skipped) metadata_starts methods_has (apart (12 ∷ 14 ∷ 20 ∷ 21 ∷ 22 ∷ []) (8 ∷ 9 ∷ 10 ∷ 11 ∷ skipped) refl))
+        (apart_at _ _ (12 ∷ 14 ∷ 20 ∷ 21 ∷ 22 ∷ []) (8 ∷ 9 ∷ 10 ∷ 11 ∷ skipped_words) metadata_starts methods_has (apart (12 ∷ 14 ∷ 20 ∷ 21 ∷ 22 ∷ []) (8 ∷ 9 ∷ 10 ∷ 11 ∷ skipped_words) refl))
 
     pub file-lawful : Lawful given shows_operands fs n (file v instances n)
     unfolding file
@@ -178,8 +178,8 @@ module _ (v : Sizes) (instances : ℕ) where
 
   -- ---- the first line
 
-  version_keeps : Keeps given shows_operands fs (line words.Abc version_line always) nothing
-  version_keeps = line-keeps given (rules v instances) words.Abc version_line always nothing (λ e. absurd (omega arith)) (λ labels tokens. refl) version-are (agrees_always given (rules v instances) words.Abc version_line nothing (free v instances words.Abc (λ e. absurd (omega arith)) (λ row after. refl)))
+  version_keeps : LineKeeps given shows_operands fs (lines_of_word words.Abc version_line always) empty_rows
+  version_keeps = line-keeps given (rules v instances) words.Abc version_line always empty_rows (λ e. absurd (omega arith)) (λ labels tokens. refl) version-are (agrees_always given (rules v instances) words.Abc version_line empty_rows (free v instances words.Abc (λ e. absurd (omega arith)) (λ row after. refl)))
 
   exact : (m x : ℕ) → (exactly m).fits x → x ≡ m
   exact m x h = eq_true x m h.1
@@ -265,6 +265,6 @@ module _ (v : Sizes) (instances : ℕ) where
       let high : v.classes ≤ instances = elim (last_says 20 instances v.classes class_enough rows clean) [ inl e ↦ omega (arith, e, classes_are) | inr le ↦ le ] in
       omega (arith, low, high)
 
-  pub rows_determined : (rows : List Row) → count_all 20 rows ≡ v.classes → count_all 14 rows ≡ instances → IsDetermined shows_operands fs (file v instances (length rows)) rows
+  pub rows_determined : (rows : List Row) → count_all 20 rows ≡ v.classes → count_all 14 rows ≡ instances → IsTextDetermined shows_operands fs (file v instances (length rows)) rows
   rows_determined rows classes_are instances_are =
       determined given shows_operands fs (file v instances (length rows)) version_found version_clean (length rows) (file-lawful (length rows)) rows (balanced rows classes_are instances_are) (omega arith)

@@ -14,9 +14,9 @@ use Rattle.abc_text_lines.specs.Words.{place_of}
 use Rattle.abc_text_lines.proofs.Bools.{if_is, split_bool}
 use Rattle.abc_text_lines.specs.Lines.{Label, Row}
 use Rattle.abc_text_lines.specs.Operands.{AreOperands, Operands, none, reasons_of}
-use Rattle.abc_text_lines.specs.Rows.{Faults, Head, Rows, code, is_label, many, nothing}
-use Rattle.abc_text_lines.specs.Law.{Among, IsFree, IsLabel, IsLine, Keeps, Lawful, Match, Shows}
-use Rattle.abc_text_lines.specs.Wordlines.{Rules, always, among, closed_to, faults_of, flat, if_none, in_word, instruction, line, lookup, plain_faults, shows_operands, twice}
+use Rattle.abc_text_lines.specs.Rows.{Faults, Head, Rows, code_rows, is_label, many, empty_rows}
+use Rattle.abc_text_lines.specs.Law.{Among, IsLineFree, IsLabel, IsLine, LineKeeps, Lawful, Match, Shows}
+use Rattle.abc_text_lines.specs.Wordlines.{Rules, always, among, closed_to, faults_by_rules, flat_lines, if_none, in_word, instruction, lines_of_word, lookup, plain_faults, shows_operands, repeat_reason}
 use Rattle.abc_text_lines.proofs.Coding.{code-lawful}
 use Rattle.abc_text_lines.proofs.Many.{eq_refl, eq_true, image-lawful, many-lawful, map_back, none_inside, nothing-lawful}
 use Rattle.abc_text_lines.proofs.Pieces.{Among-left}
@@ -81,25 +81,25 @@ module _ (rules : Rules) (row : Row) (after : List Row) where
   others = rules.others row after row.word
 
   abbrev again : List AsmReason
-  again = cond row.repeated (twice row.word ∷ []) []
+  again = cond row.repeated (repeat_reason row.word ∷ []) []
 
-  pub clear : least (faults_of rules row after) ≡ None → IsClear rules row after
+  pub clear : least (faults_by_rules rules row after) ≡ None → IsClear rules row after
   clear e =
       let plain = plain_faults rules row after in
-      let all = nothing_joined plain (if_none plain (rules.extra row after)) (least_nil (faults_of rules row after) e) in
+      let all = nothing_joined plain (if_none plain (rules.extra row after)) (least_nil (faults_by_rules rules row after) e) in
       let a = whole_line row.broken (own ++ (others ++ again)) all.0 in
       let b = nothing_joined own (others ++ again) a.1 in
       let c = nothing_joined others again b.1 in
-      record { whole = a.0; own = b.0; others = c.0; once = not_twice row.repeated (twice row.word) c.1; extra = ap (λ (l : List AsmReason). if_none l (rules.extra row after)) (sym all.0) ∙ all.1 }
+      record { whole = a.0; own = b.0; others = c.0; once = not_twice row.repeated (repeat_reason row.word) c.1; extra = ap (λ (l : List AsmReason). if_none l (rules.extra row after)) (sym all.0) ∙ all.1 }
 
-  pub unclear : IsClear rules row after → least (faults_of rules row after) ≡ None
+  pub unclear : IsClear rules row after → least (faults_by_rules rules row after) ≡ None
   unclear c =
       let plain : plain_faults rules row after ≡ [] =
       ap (λ (b : Bool). cond b (reasons.Text ∷ []) (own ++ (others ++ again))) c.whole
       ∙ ap (λ (l : List AsmReason). l ++ (others ++ again)) c.own
       ∙ ap (λ (l : List AsmReason). l ++ again) c.others
-      ∙ ap (λ (b : Bool). cond b (twice row.word ∷ []) []) c.once in
-      nil_least (faults_of rules row after) (ap (λ (l : List AsmReason). l ++ if_none l (rules.extra row after)) plain ∙ c.extra)
+      ∙ ap (λ (b : Bool). cond b (repeat_reason row.word ∷ []) []) c.once in
+      nil_least (faults_by_rules rules row after) (ap (λ (l : List AsmReason). l ++ if_none l (rules.extra row after)) plain ∙ c.extra)
 
 -- ---- a line of one word
 
@@ -141,14 +141,14 @@ same_word w v other e = sym (word_back w (λ h. other (sym e ∙ h))) ∙ ap wor
 
 -- what the lines that follow must be, by the other faults of a line
 pub record Agrees {A B : Type 0} (given : Type 0) (rules : Rules) (w : Word) (p : Operands A) (agree : A → B → Type 0) (below : Rows B) : Type 0 where
-  pub fits : given → (row : Row) (front rest : List Row) (y : B) → row.word ≡ w → IsClear rules row (front ++ rest) → Match shows_operands front (below.shows y) → below.fits y → IsFree below rest → agree (p.value row.labels row.operands) y
-  pub again : (row : Row) (front rest : List Row) (y : B) → row.word ≡ w → agree (p.value row.labels row.operands) y → Match shows_operands front (below.shows y) → below.fits y → IsFree below rest → (rules.others row (front ++ rest) w ≡ []) × (rules.extra row (front ++ rest) ≡ [])
+  pub fits : given → (row : Row) (front rest : List Row) (y : B) → row.word ≡ w → IsClear rules row (front ++ rest) → Match shows_operands front (below.shows y) → below.fits y → IsLineFree below rest → agree (p.value row.labels row.operands) y
+  pub again : (row : Row) (front rest : List Row) (y : B) → row.word ≡ w → agree (p.value row.labels row.operands) y → Match shows_operands front (below.shows y) → below.fits y → IsLineFree below rest → (rules.others row (front ++ rest) w ≡ []) × (rules.extra row (front ++ rest) ≡ [])
 
 module _ {A B : Type 0} (given : Type 0) (rules : Rules) (w : Word) (p : Operands A) (agree : A → B → Type 0) (below : Rows B) (ordinary : ¬ (place_of w ≡ 23)) (own_is : (labels : List Label) (tokens : List Token) → rules.own w labels tokens ≡ reasons_of p labels tokens) (lp : AreOperands p) (agrees : Agrees given rules w p agree below) where
   own_nil : (row : Row) (after : List Row) → row.word ≡ w → IsClear rules row after → (p.counts row.labels row.operands ≡ true) × (p.faults row.labels row.operands ≡ [])
   own_nil row after word c = reasons_nil p row.labels row.operands (sym (own_is row.labels row.operands) ∙ ap (λ (v : Word). rules.own v row.labels row.operands) (sym word) ∙ c.own)
 
-  pub line-keeps : Keeps given shows_operands (faults_of rules) (line w p agree) below
+  pub line-keeps : LineKeeps given shows_operands (faults_by_rules rules) (lines_of_word w p agree) below
   line-keeps = record {
     at = λ x. refl;
     found = λ row after here plain e.
@@ -175,12 +175,12 @@ agrees_always given rules w p below free = record { fits = λ all row front rest
 
 -- lines without lines below them
 module _ {A : Type 0} (given : Type 0) (rules : Rules) (w : Word) (p : Operands A) (ordinary : ¬ (place_of w ≡ 23)) (own_is : (labels : List Label) (tokens : List Token) → rules.own w labels tokens ≡ reasons_of p labels tokens) (others : (row : Row) (after : List Row) → row.word ≡ w → (rules.others row after w ≡ []) × (rules.extra row after ≡ [])) (lp : AreOperands p) where
-  pub flat-lawful : (n : ℕ) → Lawful given shows_operands (faults_of rules) n (flat (faults_of rules) w p n)
+  pub flat-lawful : (n : ℕ) → Lawful given shows_operands (faults_by_rules rules) n (flat_lines (faults_by_rules rules) w p n)
   flat-lawful n =
-      image-lawful given shows_operands (faults_of rules) n (map (λ (x : A × Unit {0}). x.0)) (map (λ (x : A). (x, tt)))
-      (many (faults_of rules) (line w p always) nothing n)
+      image-lawful given shows_operands (faults_by_rules rules) n (map (λ (x : A × Unit {0}). x.0)) (map (λ (x : A). (x, tt)))
+      (many (faults_by_rules rules) (lines_of_word w p always) empty_rows n)
       (map_back (λ (x : A × Unit {0}). x.0) (λ (x : A). (x, tt)) (λ x. refl)) (map_back (λ (x : A). (x, tt)) (λ (x : A × Unit {0}). x.0) (λ x. refl))
-      (many-lawful given shows_operands (faults_of rules) (line w p always) nothing (line-keeps given rules w p always nothing ordinary own_is lp (agrees_always given rules w p nothing others)) ordinary (λ h. h) (λ x before w more e. none_inside before w more e) n (nothing-lawful given shows_operands (faults_of rules) n))
+      (many-lawful given shows_operands (faults_by_rules rules) (lines_of_word w p always) empty_rows (line-keeps given rules w p always empty_rows ordinary own_is lp (agrees_always given rules w p empty_rows others)) ordinary (λ h. h) (λ x before w more e. none_inside before w more e) n (nothing-lawful given shows_operands (faults_by_rules rules) n))
 
 -- ---- instructions and label lines
 
@@ -215,7 +215,7 @@ module _ {I : Type 0} (given : Type 0) (rules : Rules) (opcode_of : I → ℕ) (
     found : IsLine shows_operands row (head.word (head.value row)) (head.items (head.value row))
     fits : head.fits (head.value row) tt
 
-  instruction_line : (row : Row) (after : List Row) → place_of row.word ≡ 23 → is_label row.word ≡ false → least (faults_of rules row after) ≡ None → IsInstruction row
+  instruction_line : (row : Row) (after : List Row) → place_of row.word ≡ 23 → is_label row.word ≡ false → least (faults_by_rules rules row after) ≡ None → IsInstruction row
   instruction_line row after here plain e =
       let w = instruction_word row.word here plain in
       let op = w.0 in
@@ -233,7 +233,7 @@ module _ {I : Type 0} (given : Type 0) (rules : Rules) (opcode_of : I → ℕ) (
         fits = subst (λ (i : I). head.fits i tt) (sym v) (subst (λ (n : ℕ). (operands n).fits ((operands op).value row.labels row.operands)) (sym same) f.1);
       }
 
-  instruction-keeps : Keeps given shows_operands (faults_of rules) head nothing
+  instruction-keeps : LineKeeps given shows_operands (faults_by_rules rules) head empty_rows
   instruction-keeps = record {
     at = λ i. refl;
     found = λ row after here plain e. (instruction_line row after here plain e).found;
@@ -252,21 +252,21 @@ module _ {I : Type 0} (given : Type 0) (rules : Rules) (opcode_of : I → ℕ) (
   label_at : (row : Row) → is_label row.word ≡ true → place_of row.word ≡ 23
   label_at row l = ap place_of (label_word row.word l)
 
-  label_found : (row : Row) (after : List Row) → is_label row.word ≡ true → least (faults_of rules row after) ≡ None → IsLabel row
+  label_found : (row : Row) (after : List Row) → is_label row.word ≡ true → least (faults_by_rules rules row after) ≡ None → IsLabel row
   label_found row after l e =
       let c = clear rules row after e in
       let own = reasons_nil none row.labels row.operands (sym (label_is row.labels row.operands) ∙ ap (λ (v : Word). rules.own v row.labels row.operands) (sym (label_word row.word l)) ∙ c.own) in
       record { word = l; whole = c.whole; operands = no_operands row.labels row.operands own.0; once = c.once }
 
-  label_clean : (row : Row) (after : List Row) → IsLabel row → least (faults_of rules row after) ≡ None
+  label_clean : (row : Row) (after : List Row) → IsLabel row → least (faults_by_rules rules row after) ≡ None
   label_clean row after l =
       let more = others row after (label_at row l.word) in
       let tokens = l.operands in
       let own : rules.own row.word row.labels row.operands ≡ [] = ap (λ (v : Word). rules.own v row.labels row.operands) (label_word row.word l.word) ∙ label_is row.labels row.operands ∙ ap (λ (t : List Token). reasons_of none row.labels t) tokens in
       unclear rules row after (record { whole = l.whole; own = own; others = more.0; once = l.once; extra = more.1 })
 
-  pub code_is-lawful : (n : ℕ) → Lawful given shows_operands (faults_of rules) n (code (faults_of rules) head 0)
-  code_is-lawful n = code-lawful given shows_operands (faults_of rules) head instruction-keeps refl (λ i. refl) label_clean label_found n 0
+  pub code_is-lawful : (n : ℕ) → Lawful given shows_operands (faults_by_rules rules) n (code_rows (faults_by_rules rules) head 0)
+  code_is-lawful n = code-lawful given shows_operands (faults_by_rules rules) head instruction-keeps refl (λ i. refl) label_clean label_found n 0
 
 -- ---- places
 

@@ -3,9 +3,9 @@ use Rattle.std.proofs.Common.{◌≡◌, ℕ, ◌+◌, ◌/◌, ◌%◌, ◌<◌
 use Rattle.std.specs.List.{AllByRecursion}
 use Rattle.std.proofs.lemmas.Bool.{cases_lt}
 use Rattle.std.proofs.lemmas.Bool.Decides.{nat_tests}
-use Rattle.abc_base.specs.Escapes.{escape_of, escaped, hex_digit, is_plain}
+use Rattle.abc_base.specs.Escapes.{escape_of, with_escapes, hex_digit, is_plain_byte}
 use Rattle.abc_text_lines.specs.Tokens.{Token, Bare, Quoted, EndsRun, HasTokens, IsQuoted, backslash, hex_value, is_hex, quote, semicolon}
-use Rattle.abc_text_lines.specs.Writing.{AreWritable, IsComment, IsWritable, spaced, written, written_line}
+use Rattle.abc_text_lines.specs.Writing.{AreWritable, IsComment, IsWritable, spaced_tokens, token_bytes, written_line}
 use Rattle.abc_text_lines.proofs.Bools.{and_true, not_true, split_bool}
 use Rattle.abc_text_lines.proofs.Readings.{quoted_append}
 
@@ -27,7 +27,7 @@ hex_is n lt =
           rw (a, f, b, c, d, e) (refl, omega arith)
     ]
 
-plain_is : (b : ℕ) → is_plain b ≡ true → IsQuoted (b ∷ []) (b ∷ [])
+plain_is : (b : ℕ) → is_plain_byte b ≡ true → IsQuoted (b ∷ []) (b ∷ [])
 plain_is b e =
     let all = and_true (nat_le 0x20 b && nat_le b 0x7e && not (nat_eq b 0x22)) (not (nat_eq b 0x5c)) e in
     let two = and_true (nat_le 0x20 b && nat_le b 0x7e) (not (nat_eq b 0x22)) all.0 in
@@ -40,22 +40,22 @@ escape_is b lt =
     inr (hex_digit (b / 16), hex_digit (b % 16), [], refl, h.0, l.0, omega (arith, h.1, l.1), refl)
 
 byte_is : (b : ℕ) → b < 256 → IsQuoted (escape_of b) (b ∷ [])
-byte_is b lt = elim (split_bool (is_plain b)) [ inl e ↦ rw e (plain_is b e) | inr e ↦ rw e (escape_is b lt) ]
+byte_is b lt = elim (split_bool (is_plain_byte b)) [ inl e ↦ rw e (plain_is b e) | inr e ↦ rw e (escape_is b lt) ]
 
-pub escaped_is : (text : List ℕ) → AllByRecursion (λ b. b < 256) text → IsQuoted (escaped text) text
-unfolding escaped
+pub escaped_is : (text : List ℕ) → AllByRecursion (λ b. b < 256) text → IsQuoted (with_escapes text) text
+unfolding with_escapes
 escaped_is [] all = refl
-escaped_is (b ∷ text) all = quoted_append (escape_of b) (b ∷ []) (escaped text) text (byte_is b all.0) (escaped_is text all.1)
+escaped_is (b ∷ text) all = quoted_append (escape_of b) (b ∷ []) (with_escapes text) text (byte_is b all.0) (escaped_is text all.1)
 
 -- ---- a line
 
 no_word : (b : ℕ) (bytes : List ℕ) → ¬ (b ∷ bytes ≡ [])
 no_word b bytes e = cc
 
-token_has : (token : Token) (rest : List ℕ) (tokens : List Token) → IsWritable token → EndsRun rest → HasTokens false rest tokens → HasTokens false (written token ++ rest) (token ∷ tokens)
+token_has : (token : Token) (rest : List ℕ) (tokens : List Token) → IsWritable token → EndsRun rest → HasTokens false rest tokens → HasTokens false (token_bytes token ++ rest) (token ∷ tokens)
 token_has (Bare []) rest tokens is ends has = absurd is
 token_has (Bare (b ∷ bytes)) rest tokens is ends has = ([], rest, refl, tt, record { some = no_word b bytes; bytes = is; longest = ends }, has)
-token_has (Quoted text) rest tokens is ends has = ([], escaped text, rest, ap (λ (l : List ℕ). quote ∷ l) (append_assoc (escaped text) (quote ∷ []) rest), tt, escaped_is text is, has)
+token_has (Quoted text) rest tokens is ends has = ([], with_escapes text, rest, ap (λ (l : List ℕ). quote ∷ l) (append_assoc (with_escapes text) (quote ∷ []) rest), tt, escaped_is text is, has)
 
 comment_has : (comment : List ℕ) → IsComment comment → HasTokens false comment [] × EndsRun comment
 comment_has comment is =
@@ -69,15 +69,15 @@ blank_first bytes [] has = (0x20 ∷ has.0, has.1, ap (λ (l : List ℕ). 0x20 �
 blank_first bytes (Bare word ∷ tokens) has = (0x20 ∷ has.0, has.1, ap (λ (l : List ℕ). 0x20 ∷ l) has.2, (refl, has.3), has.4, has.5)
 blank_first bytes (Quoted text ∷ tokens) has = (0x20 ∷ has.0, has.1, has.2, ap (λ (l : List ℕ). 0x20 ∷ l) has.3, (refl, has.4), has.5, has.6)
 
-spaced_has : (tokens : List Token) (comment : List ℕ) → AreWritable tokens → IsComment comment → HasTokens false (spaced tokens ++ comment) tokens × EndsRun (spaced tokens ++ comment)
+spaced_has : (tokens : List Token) (comment : List ℕ) → AreWritable tokens → IsComment comment → HasTokens false (spaced_tokens tokens ++ comment) tokens × EndsRun (spaced_tokens tokens ++ comment)
 spaced_has [] comment are is = comment_has comment is
 spaced_has (token ∷ tokens) comment are is =
     let more = spaced_has tokens comment are.1 is in
-    let here = token_has token (spaced tokens ++ comment) tokens are.0 more.1 more.0 in
-    (subst (λ (l : List ℕ). HasTokens false (0x20 ∷ l) (token ∷ tokens)) (sym (append_assoc (written token) (spaced tokens) comment)) (blank_first (written token ++ (spaced tokens ++ comment)) (token ∷ tokens) here), refl)
+    let here = token_has token (spaced_tokens tokens ++ comment) tokens are.0 more.1 more.0 in
+    (subst (λ (l : List ℕ). HasTokens false (0x20 ∷ l) (token ∷ tokens)) (sym (append_assoc (token_bytes token) (spaced_tokens tokens) comment)) (blank_first (token_bytes token ++ (spaced_tokens tokens ++ comment)) (token ∷ tokens) here), refl)
 
 pub line_has : (tokens : List Token) (comment : List ℕ) → AreWritable tokens → IsComment comment → HasTokens false (written_line tokens ++ comment) tokens
 line_has [] comment are is = (comment_has comment is).0
 line_has (token ∷ tokens) comment are is =
     let more = spaced_has tokens comment are.1 is in
-    subst (λ (l : List ℕ). HasTokens false l (token ∷ tokens)) (sym (append_assoc (written token) (spaced tokens) comment)) (token_has token (spaced tokens ++ comment) tokens are.0 more.1 more.0)
+    subst (λ (l : List ℕ). HasTokens false l (token ∷ tokens)) (sym (append_assoc (token_bytes token) (spaced_tokens tokens) comment)) (token_has token (spaced_tokens tokens ++ comment) tokens are.0 more.1 more.0)

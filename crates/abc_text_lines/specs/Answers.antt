@@ -27,15 +27,15 @@ pairs (a ∷ []) = []
 pairs (a ∷ b ∷ items) = (a, b) ∷ pairs items
 
 -- the strings of such pairs, one after the other
-abbrev pub joined : List (ℕ × ℕ) → List ℕ
-joined [] = []
-joined (pair ∷ pairs) = pair.0 ∷ pair.1 ∷ joined pairs
+abbrev pub flat_pairs : List (ℕ × ℕ) → List ℕ
+flat_pairs [] = []
+flat_pairs (pair ∷ pairs) = pair.0 ∷ pair.1 ∷ flat_pairs pairs
 
 abbrev pub metadata_lines : Metadata → ℕ × List (ℕ × ℕ)
 metadata_lines m = (m.name, pairs m.items)
 
-abbrev pub metadata_of : ℕ × List (ℕ × ℕ) → Metadata
-metadata_of x = record { name = x.0; items = joined x.1 }
+abbrev pub metadata_of_parts : ℕ × List (ℕ × ℕ) → Metadata
+metadata_of_parts x = record { name = x.0; items = flat_pairs x.1 }
 
 abbrev pub first_in : List ℕ → Option ℕ
 first_in [] = None
@@ -48,11 +48,11 @@ initializer_in None = (0, [])
 abbrev pub instance_head : Instance → InstanceHead
 instance_head i = record { name = i.name; super_name = i.super_name; flags = i.flags }
 
-abbrev pub instance_in : Instance → InstanceHead × (List ℕ × (List ℕ × Option (ℕ × List TraitInfo)))
-instance_in i = (instance_head i, (option_to_list i.protected_ns, (i.interfaces, Some (i.iinit, i.traits))))
+abbrev pub instance_parts : Instance → InstanceHead × (List ℕ × (List ℕ × Option (ℕ × List TraitInfo)))
+instance_parts i = (instance_head i, (option_to_list i.protected_ns, (i.interfaces, Some (i.iinit, i.traits))))
 
-abbrev pub instance_of : InstanceHead × (List ℕ × (List ℕ × Option (ℕ × List TraitInfo))) → Instance
-instance_of x = record {
+abbrev pub instance_of_parts : InstanceHead × (List ℕ × (List ℕ × Option (ℕ × List TraitInfo))) → Instance
+instance_of_parts x = record {
   name = x.0.name;
   super_name = x.0.super_name;
   flags = x.0.flags;
@@ -66,7 +66,7 @@ module _ (sizes : Sizes) (instances : ℕ) where
   abbrev pub outline_of : Abc → Outline sizes instances
   outline_of v = (
     (v.ints, (v.uints, (v.doubles, (v.strings, (v.namespaces, (v.sets, v.names)))))),
-    (v.methods, (map metadata_lines v.metadata, (map instance_in v.instances, (v.classes, (v.scripts, v.bodies))))),
+    (v.methods, (map metadata_lines v.metadata, (map instance_parts v.instances, (v.classes, (v.scripts, v.bodies))))),
   )
 
   abbrev pub abc_of : Outline sizes instances → Abc
@@ -79,8 +79,8 @@ module _ (sizes : Sizes) (instances : ℕ) where
     sets = x.0.1.1.1.1.1.0;
     names = x.0.1.1.1.1.1.1;
     methods = x.1.0;
-    metadata = map metadata_of x.1.1.0;
-    instances = map instance_of x.1.1.1.0;
+    metadata = map metadata_of_parts x.1.1.0;
+    instances = map instance_of_parts x.1.1.1.0;
     classes = x.1.1.1.1.0;
     scripts = x.1.1.1.1.1.0;
     bodies = x.1.1.1.1.1.1;
@@ -89,34 +89,34 @@ module _ (sizes : Sizes) (instances : ℕ) where
 -- ---- the lines of a file
 
 -- the lines of a file with so many entries in its tables and so many instances; how many lines a reader may take doesn't matter for them
-abbrev pub table : (v : Abc) → Rows (Outline (sizes_of v) (length v.instances))
-table v = file (sizes_of v) (length v.instances) 0
+abbrev pub file_rows : (v : Abc) → Rows (Outline (sizes_of v) (length v.instances))
+file_rows v = file (sizes_of v) (length v.instances) 0
 
 abbrev pub outline : (v : Abc) → Outline (sizes_of v) (length v.instances)
 outline v = outline_of (sizes_of v) (length v.instances) v
 
 -- all lines of the one text of a file, without comments
-abbrev pub lines_of : Abc → List Shown
-lines_of v = rows.lines_of (table v) (outline v)
+abbrev pub lines_of_file : Abc → List Shown
+lines_of_file v = rows.lines_of_value (file_rows v) (outline v)
 
 -- Each entry of the metadata is two strings.
-abbrev pub IsWhole : Abc → Type 0
-IsWhole v = abc_of (sizes_of v) (length v.instances) (outline v) ≡ v
+abbrev pub IsMetadataWhole : Abc → Type 0
+IsMetadataWhole v = abc_of (sizes_of v) (length v.instances) (outline v) ≡ v
 
 -- The lines are those of a file whose fields are in their ranges.
-pub record IsListed (lines : List Row) (v : Abc) : Type 0 where
-  pub shown : Match shows_operands lines (lines_of v)
-  pub fits : (table v).fits (outline v)
-  pub whole : IsWhole v
+pub record AreFileLines (lines : List Row) (v : Abc) : Type 0 where
+  pub shown : Match shows_operands lines (lines_of_file v)
+  pub fits : (file_rows v).fits (outline v)
+  pub whole : IsMetadataWhole v
 
 -- The text is one of the file.
 pub record IsAssemblyOf (text : List ℕ) (v : Abc) : Type 0 where
-  pub listed : IsListed (rows_of text) v
+  pub listed : AreFileLines (rows_of text) v
   pub short : length (file_bytes v) ≤ 2 ^ 24
 
 -- No line has a fault, and the canonical bytes are too many.
 abbrev pub IsTooLong : List ℕ → Fault → Type 0
-IsTooLong text f = (v : Abc) × IsListed (rows_of text) v × (2 ^ 24 < length (file_bytes v)) × (f ≡ fault 1 reasons.FileTooLong)
+IsTooLong text f = (v : Abc) × AreFileLines (rows_of text) v × (2 ^ 24 < length (file_bytes v)) × (f ≡ fault 1 reasons.FileTooLong)
 
 -- the least line with a fault and the first reason there, or FileTooLong
 abbrev pub IsAssemblyFault : List ℕ → Fault → Type 0

@@ -25,27 +25,27 @@ use Rattle.abc_file_types.specs.CodeBytes.{code_len}
 use Rattle.abc_file_types.specs.Methods.{has_flag}
 use Rattle.abc_text_lines.specs.Lines.{Label, Row}
 use Rattle.abc_text_lines.specs.Operands.{none, reasons_of}
-use Rattle.abc_text_lines.specs.Rows.{Fault, Faults, Head, Rows, both, code, image, many, optional}
-use Rattle.abc_text_lines.specs.Wordlines.{Rules, always, closed_to, count_all, count_lines, faults_of, flat, instruction, line}
-use Rattle.abc_text_lines.specs.Lineforms.{BodyHead, InstanceHead, MethodHead, TraitHead, body_line, catch_line, double_line, entry_line, implements_line, instance_line, instruction_line, int_line, method_index_line, method_line, name_line, namespace_line, number_line, opcode_of, option_line, param_line, protected_line, set_line, string_index_line, string_line, trait_line, trait_metadata_line, uint_line, version_line}
+use Rattle.abc_text_lines.specs.Rows.{Fault, Faults, Head, Rows, both_rows, code_rows, image_rows, many, optional}
+use Rattle.abc_text_lines.specs.Wordlines.{Rules, always, closed_to, count_all, count_lines, faults_by_rules, flat_lines, instruction, lines_of_word}
+use Rattle.abc_text_lines.specs.Lineforms.{BodyHead, InstanceHead, MethodHead, TraitHead, body_line, catch_line, double_line, entry_line, implements_line, instance_line, instruction_operands, int_line, method_index_line, method_line, name_line, namespace_line, number_line, opcode_of, option_line, param_line, protected_line, set_line, string_index_line, string_line, trait_line, trait_metadata_line, uint_line, version_line}
 
 -- ---- which lines are counted
 
 -- instructions, label lines and lines of an unknown word end no part
-abbrev pub skipped : List ℕ
-skipped = 23 ∷ 25 ∷ []
+abbrev pub skipped_words : List ℕ
+skipped_words = 23 ∷ 25 ∷ []
 
 -- param, option and pname
 abbrev pub method_part : List ℕ
-method_part = 9 ∷ 10 ∷ 11 ∷ skipped
+method_part = 9 ∷ 10 ∷ 11 ∷ skipped_words
 
 -- protected, implements, iinit, trait and tmeta
 abbrev pub instance_part : List ℕ
-instance_part = 15 ∷ 16 ∷ 17 ∷ 18 ∷ 19 ∷ skipped
+instance_part = 15 ∷ 16 ∷ 17 ∷ 18 ∷ 19 ∷ skipped_words
 
 -- tmeta
 abbrev pub trait_part : List ℕ
-trait_part = 19 ∷ skipped
+trait_part = 19 ∷ skipped_words
 
 -- every line but a body's
 abbrev pub body_part : List ℕ
@@ -106,7 +106,7 @@ module _ (v : Sizes) (instances : ℕ) where
   own words.Class = reasons_of (method_index_line v)
   own words.Script = reasons_of (method_index_line v)
   own words.Body = reasons_of (body_line v)
-  own (words.Instruction op) = reasons_of (instruction_line op)
+  own (words.Instruction op) = reasons_of (instruction_operands op)
   own words.Label = reasons_of none
   own words.Catch = reasons_of (catch_line v)
   own words.Unknown = λ labels tokens. reasons.Word ∷ []
@@ -124,17 +124,17 @@ module _ (v : Sizes) (instances : ℕ) where
   MetadataAgrees t metadata = (has_flag t.attrs 4 || nat_eq (length metadata) 0) ≡ true
 
   unfoldable pub traits : Faults → ℕ → Rows (List TraitInfo)
-  traits faults n = image
+  traits faults n = image_rows
       (map (λ (x : TraitHead × List ℕ). record { name = x.0.name; attrs = x.0.attrs; body = x.0.body; metadata = x.1 }))
       (map (λ (t : TraitInfo). (record { attrs = t.attrs; name = t.name; body = t.body }, t.metadata)))
-      (many faults (line words.Trait (trait_line v) MetadataAgrees) (closed_to skipped (flat faults words.TraitMetadata (trait_metadata_line v) n)) n)
+      (many faults (lines_of_word words.Trait (trait_line v) MetadataAgrees) (closed_to skipped_words (flat_lines faults words.TraitMetadata (trait_metadata_line v) n)) n)
 
   abbrev pub instructions : Head Instr (Unit {0})
-  instructions = instruction opcode_of instruction_line (instrs.Plain 0)
+  instructions = instruction opcode_of instruction_operands (instrs.Plain 0)
 
   -- the code, handlers and traits of a body, up to the next body
   unfoldable pub body_below : Faults → ℕ → Rows (List Instr × (List Handler × List TraitInfo))
-  body_below faults n = closed_to body_part (both (code faults instructions 0) (both (flat faults words.Catch (catch_line v) n) (traits faults n)))
+  body_below faults n = closed_to body_part (both_rows (code_rows faults instructions 0) (both_rows (flat_lines faults words.Catch (catch_line v) n) (traits faults n)))
 
   -- ---- code that is too long
 
@@ -151,14 +151,14 @@ module _ (v : Sizes) (instances : ℕ) where
   plain_rules = record { own = own; others = others; extra = λ row after. [] }
 
   abbrev pub extra : Row → List Row → Word → List AsmReason
-  extra row after words.Body = long_code ((body_below (faults_of plain_rules) (length after)).reads after)
+  extra row after words.Body = long_code ((body_below (faults_by_rules plain_rules) (length after)).reads after)
   extra row after _ = []
 
   abbrev pub rules : Rules
   rules = record { own = own; others = others; extra = λ row after. extra row after row.word }
 
   abbrev pub faults : Faults
-  faults = faults_of rules
+  faults = faults_by_rules rules
 
   -- ---- the table
 
@@ -166,16 +166,16 @@ module _ (v : Sizes) (instances : ℕ) where
   MethodAgrees m y = (nat_le (length y.1.0) (where_set (has_flag m.flags 0x08) (length y.0)) && nat_eq (length y.1.1) (where_set (has_flag m.flags 0x80) (length y.0))) ≡ true
 
   unfoldable pub method_below : ℕ → Rows (List ℕ × (List OptionValue × List ℕ))
-  method_below n = closed_to skipped (both (flat faults words.Param (param_line v) n) (both (flat faults words.Optional (option_line v) n) (flat faults words.ParamName number_line n)))
+  method_below n = closed_to skipped_words (both_rows (flat_lines faults words.Param (param_line v) n) (both_rows (flat_lines faults words.Optional (option_line v) n) (flat_lines faults words.ParamName number_line n)))
 
   unfoldable pub methods : ℕ → Rows (List Method)
-  methods n = image
+  methods n = image_rows
       (map (λ (x : MethodHead × (List ℕ × (List OptionValue × List ℕ))). record { ret = x.0.ret; params = x.1.0; name = x.0.name; flags = x.0.flags; options = x.1.1.0; param_names = x.1.1.1 }))
       (map (λ (m : Method). (record { ret = m.ret; name = m.name; flags = m.flags }, (m.params, (m.options, m.param_names)))))
-      (many faults (line words.Method (method_line v) MethodAgrees) (method_below n) n)
+      (many faults (lines_of_word words.Method (method_line v) MethodAgrees) (method_below n) n)
 
   unfoldable pub metadata : ℕ → Rows (List (ℕ × List (ℕ × ℕ)))
-  metadata n = many faults (line words.Metadata (string_index_line v) always) (flat faults words.Entry (entry_line v) n) n
+  metadata n = many faults (lines_of_word words.Metadata (string_index_line v) always) (flat_lines faults words.Entry (entry_line v) n) n
 
   -- as many instances as classes
   abbrev pub IsBalanced : Type 0
@@ -190,32 +190,32 @@ module _ (v : Sizes) (instances : ℕ) where
 
   unfoldable pub instance_below : ℕ → Rows InstanceBelow
   instance_below n =
-      closed_to skipped (both (flat faults words.Protected (protected_line v) n) (both (flat faults words.Implements (implements_line v) n)
-      (optional faults (line words.Initializer (method_index_line v) always) (traits faults n))))
+      closed_to skipped_words (both_rows (flat_lines faults words.Protected (protected_line v) n) (both_rows (flat_lines faults words.Implements (implements_line v) n)
+      (optional faults (lines_of_word words.Initializer (method_index_line v) always) (traits faults n))))
 
   unfoldable pub instance_lines : ℕ → Rows (List (InstanceHead × InstanceBelow))
-  instance_lines n = many faults (line words.Instance (instance_line v) InstanceAgrees) (instance_below n) n
+  instance_lines n = many faults (lines_of_word words.Instance (instance_line v) InstanceAgrees) (instance_below n) n
 
   abbrev pub ClassAgrees : ℕ → List TraitInfo → Type 0
   ClassAgrees c y = IsBalanced
 
   unfoldable pub classes : ℕ → Rows (List ClassInfo)
-  classes n = image
+  classes n = image_rows
       (map (λ (x : ℕ × List TraitInfo). record { cinit = x.0; traits = x.1 }))
       (map (λ (c : ClassInfo). (c.cinit, c.traits)))
-      (many faults (line words.Class (method_index_line v) ClassAgrees) (traits faults n) n)
+      (many faults (lines_of_word words.Class (method_index_line v) ClassAgrees) (traits faults n) n)
 
   unfoldable pub scripts : ℕ → Rows (List Script)
-  scripts n = image
+  scripts n = image_rows
       (map (λ (x : ℕ × List TraitInfo). record { init = x.0; traits = x.1 }))
       (map (λ (s : Script). (s.init, s.traits)))
-      (many faults (line words.Script (method_index_line v) always) (traits faults n) n)
+      (many faults (lines_of_word words.Script (method_index_line v) always) (traits faults n) n)
 
   abbrev pub BodyAgrees : BodyHead → List Instr × (List Handler × List TraitInfo) → Type 0
   BodyAgrees b y = nat_le (2 ^ 23) (code_len y.0) ≡ false
 
   unfoldable pub body_lines : ℕ → Rows (List Body)
-  body_lines n = image
+  body_lines n = image_rows
       (map (λ (x : BodyHead × (List Instr × (List Handler × List TraitInfo))). record {
         method = x.0.method;
         max_stack = x.0.max_stack;
@@ -230,7 +230,7 @@ module _ (v : Sizes) (instances : ℕ) where
         record { method = b.method; max_stack = b.max_stack; local_count = b.local_count; init_scope = b.init_scope; max_scope = b.max_scope },
         (b.code, (b.handlers, b.traits)),
       )))
-      (many faults (line words.Body (body_line v) BodyAgrees) (body_below faults n) n)
+      (many faults (lines_of_word words.Body (body_line v) BodyAgrees) (body_below faults n) n)
 
   -- the values of the pools
   abbrev pub PoolValues : Type 0
@@ -238,9 +238,9 @@ module _ (v : Sizes) (instances : ℕ) where
 
   unfoldable pub pools : ℕ → Rows PoolValues
   pools n =
-      both (flat faults words.Int int_line n) (both (flat faults words.UInt uint_line n) (both (flat faults words.Double double_line n)
-      (both (flat faults words.Text string_line n) (both (flat faults words.Namespace (namespace_line v) n) (both (flat faults words.Set (set_line v) n)
-      (flat faults words.Name (name_line v) n))))))
+      both_rows (flat_lines faults words.Int int_line n) (both_rows (flat_lines faults words.UInt uint_line n) (both_rows (flat_lines faults words.Double double_line n)
+      (both_rows (flat_lines faults words.Text string_line n) (both_rows (flat_lines faults words.Namespace (namespace_line v) n) (both_rows (flat_lines faults words.Set (set_line v) n)
+      (flat_lines faults words.Name (name_line v) n))))))
 
   -- The tables as lines have them: the entries of metadata in pairs, and below an instance what lines there may be.
   abbrev pub Outline : Type 0
@@ -248,4 +248,4 @@ module _ (v : Sizes) (instances : ℕ) where
 
   -- the lines after the first
   unfoldable pub file : ℕ → Rows Outline
-  file n = both (pools n) (both (methods n) (both (metadata n) (both (instance_lines n) (both (classes n) (both (scripts n) (body_lines n))))))
+  file n = both_rows (pools n) (both_rows (methods n) (both_rows (metadata n) (both_rows (instance_lines n) (both_rows (classes n) (both_rows (scripts n) (body_lines n))))))

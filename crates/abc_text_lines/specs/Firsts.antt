@@ -5,6 +5,6 @@ use Rattle.std.specs.declared.result.Result.{Result}
 use Rattle.abc_text_lines.specs.declared.reason.AsmReason.{AsmReason}
 
 -- the value, unless a reason was noted
-abbrev pub told : {A : Type 0} → Option AsmReason → A → Result A AsmReason
-told None x = Ok x
-told (Some r) x = Err r
+abbrev pub value_or_reason : {A : Type 0} → Option AsmReason → A → Result A AsmReason
+value_or_reason None x = Ok x
+value_or_reason (Some r) x = Err r

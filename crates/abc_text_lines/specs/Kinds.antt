@@ -53,8 +53,8 @@ multiname_words =
     (codes "MultinameL", names.MultiL false) ∷ (codes "MultinameLA", names.MultiL true) ∷ (codes "TypeName", names.TypeName) ∷ []
 
 -- the word of a kind of multiname; the kind says too whether it names an attribute
-unfoldable pub multiname_kind : Operand MultinameKind
-multiname_kind = kind multiname_word (lookup multiname_words) names.TypeName
+unfoldable pub multiname_kind_operand : Operand MultinameKind
+multiname_kind_operand = kind multiname_word (lookup multiname_words) names.TypeName
 
 -- ---- optional values
 
@@ -84,8 +84,8 @@ value_words =
     (codes "StaticProtected", values.StaticProtected) ∷ []
 
 -- such a word, as an operand
-unfoldable pub value_kind : Operand ValueKind
-value_kind = kind value_word (lookup value_words) values.Undefined
+unfoldable pub value_kind_operand : Operand ValueKind
+value_kind_operand = kind value_word (lookup value_words) values.Undefined
 
 -- ---- traits
 
@@ -104,5 +104,5 @@ trait_words =
     (codes "class", traits.Class) ∷ (codes "function", traits.Function) ∷ []
 
 -- the word of a kind of trait
-unfoldable pub trait_kind : Operand TraitKind
-trait_kind = kind trait_word (lookup trait_words) traits.Slot
+unfoldable pub trait_kind_operand : Operand TraitKind
+trait_kind_operand = kind trait_word (lookup trait_words) traits.Slot

@@ -24,12 +24,12 @@ use Rattle.abc_file_types.specs.declared.opcodes.Form.TheVariants as forms
 use Rattle.abc_file_types.specs.Opcodes.{form_at}
 use Rattle.abc_file_types.specs.Methods.{has_value}
 use Rattle.abc_file_types.specs.Traits.{trait_kind_in}
-use Rattle.abc_text_lines.specs.Operands.{Operand, Operands, by, checked, eight, entry_upto, exactly, index_below, index_upto, none, number_below, seen, several, signed_between, target, text, u30, unseen, ◌&◌}
-use Rattle.abc_text_lines.specs.Kinds.{multiname_kind, space_kind, trait_kind, value_kind}
+use Rattle.abc_text_lines.specs.Operands.{Operand, Operands, by, operand_with_test, eight, entry_upto, exactly, index_operand_below, index_upto, none, number_below, map_operands, several, signed_between, target, text_operand, u30_operand, unseen, ◌&◌}
+use Rattle.abc_text_lines.specs.Kinds.{multiname_kind_operand, space_kind, trait_kind_operand, value_kind_operand}
 
 -- one operand
-abbrev pub alone : {A : Type 0} → Operand A → Operands A
-alone {A} p = seen (λ (x : A × Unit {0}). x.0) (λ (x : A). (x, tt)) (p & none)
+abbrev pub one_operand_alone : {A : Type 0} → Operand A → Operands A
+one_operand_alone {A} p = map_operands (λ (x : A × Unit {0}). x.0) (λ (x : A). (x, tt)) (p & none)
 
 -- ---- pools
 
@@ -39,23 +39,23 @@ version_line = exactly 16 & (exactly 46 & none)
 
 -- `int`: a number from -2^31 to 2^31 - 1
 unfoldable pub int_line : Operands ℤ
-int_line = alone (signed_between (negsuc 2147483647) (pos 2147483647))
+int_line = one_operand_alone (signed_between (negsuc 2147483647) (pos 2147483647))
 
 -- `uint`: a number below 2^32
 unfoldable pub uint_line : Operands ℕ
-uint_line = alone (number_below (2 ^ 32))
+uint_line = one_operand_alone (number_below (2 ^ 32))
 
 -- `double`: eight bytes
 unfoldable pub double_line : Operands Eight
-double_line = seen (λ x. record { 0 = x.0 }) (λ d. (d.0, tt)) (eight & none)
+double_line = map_operands (λ x. record { 0 = x.0 }) (λ d. (d.0, tt)) (eight & none)
 
 -- `string`: a quoted text
 unfoldable pub string_line : Operands (List ℕ)
-string_line = alone text
+string_line = one_operand_alone text_operand
 
 -- `ns`: a kind word, and the name, by the index of a string or 0
 unfoldable pub namespace_line : Sizes → Operands Namespace
-namespace_line v = seen (λ x. record { kind = x.0; name = x.1.0 }) (λ n. (n.kind, (n.name, tt))) (space_kind & (index_upto v.strings & none))
+namespace_line v = map_operands (λ x. record { kind = x.0; name = x.1.0 }) (λ n. (n.kind, (n.name, tt))) (space_kind & (index_upto v.strings & none))
 
 -- `set`: any number of namespaces, each by its index, which isn't 0
 unfoldable pub set_line : Sizes → Operands (List ℕ)
@@ -80,26 +80,26 @@ one_of (names.Rt attr name) = name
 one_of (names.MultiL attr set) = set
 one_of _ = 0
 
-abbrev pub type_of : Multiname → ℕ × List ℕ
-type_of (names.TypeName base params) = (base, params)
-type_of _ = (0, [])
+abbrev pub type_parts : Multiname → ℕ × List ℕ
+type_parts (names.TypeName base params) = (base, params)
+type_parts _ = (0, [])
 
 -- the indices of a multiname in file order
-abbrev pub multiname_fields : Sizes → MultinameKind → Operands Multiname
-multiname_fields v (kinds.QName attr) = seen (λ x. names.QName attr x.0 x.1.0) (λ m. ((two_of m).0, ((two_of m).1, tt))) (index_upto v.namespaces & (index_upto v.strings & none))
-multiname_fields v (kinds.Rt attr) = seen (λ x. names.Rt attr x.0) (λ m. (one_of m, tt)) (index_upto v.strings & none)
-multiname_fields v (kinds.RtL attr) = seen (λ x. names.RtL attr) (λ m. tt) none
-multiname_fields v (kinds.Multi attr) = seen (λ x. names.Multi attr x.0 x.1.0) (λ m. ((two_of m).0, ((two_of m).1, tt))) (index_upto v.strings & (entry_upto v.sets & none))
-multiname_fields v (kinds.MultiL attr) = seen (λ x. names.MultiL attr x.0) (λ m. (one_of m, tt)) (entry_upto v.sets & none)
-multiname_fields v kinds.TypeName = seen (λ x. names.TypeName x.0 x.1) type_of (entry_upto v.names & several (index_upto v.names))
+abbrev pub multiname_operands : Sizes → MultinameKind → Operands Multiname
+multiname_operands v (kinds.QName attr) = map_operands (λ x. names.QName attr x.0 x.1.0) (λ m. ((two_of m).0, ((two_of m).1, tt))) (index_upto v.namespaces & (index_upto v.strings & none))
+multiname_operands v (kinds.Rt attr) = map_operands (λ x. names.Rt attr x.0) (λ m. (one_of m, tt)) (index_upto v.strings & none)
+multiname_operands v (kinds.RtL attr) = map_operands (λ x. names.RtL attr) (λ m. tt) none
+multiname_operands v (kinds.Multi attr) = map_operands (λ x. names.Multi attr x.0 x.1.0) (λ m. ((two_of m).0, ((two_of m).1, tt))) (index_upto v.strings & (entry_upto v.sets & none))
+multiname_operands v (kinds.MultiL attr) = map_operands (λ x. names.MultiL attr x.0) (λ m. (one_of m, tt)) (entry_upto v.sets & none)
+multiname_operands v kinds.TypeName = map_operands (λ x. names.TypeName x.0 x.1) type_parts (entry_upto v.names & several (index_upto v.names))
 
 abbrev pub multiname_rest : Sizes → Option MultinameKind → Operands Multiname
-multiname_rest v (Some kind) = multiname_fields v kind
+multiname_rest v (Some kind) = multiname_operands v kind
 multiname_rest v None = unseen (names.RtL false)
 
 -- `name`: a kind word, and the indices that multinames of the kind have
 unfoldable pub name_line : Sizes → Operands Multiname
-name_line v = seen (λ x. x.1) (λ m. (kind_in m, m)) (by multiname_kind (multiname_rest v))
+name_line v = map_operands (λ x. x.1) (λ m. (kind_in m, m)) (by multiname_kind_operand (multiname_rest v))
 
 -- ---- methods and metadata
 
@@ -111,35 +111,35 @@ pub record MethodHead : Type 0 where
 
 -- `method`: the return type, by the index of a multiname or 0, the name, by the index of a string or 0, and the flags
 unfoldable pub method_line : Sizes → Operands MethodHead
-method_line v = seen (λ x. record { ret = x.0; name = x.1.0; flags = x.1.1.0 }) (λ m. (m.ret, (m.name, (m.flags, tt)))) (index_upto v.names & (index_upto v.strings & (number_below 256 & none)))
+method_line v = map_operands (λ x. record { ret = x.0; name = x.1.0; flags = x.1.1.0 }) (λ m. (m.ret, (m.name, (m.flags, tt)))) (index_upto v.names & (index_upto v.strings & (number_below 256 & none)))
 
 -- `param`: the type of a parameter, by the index of a multiname or 0
 unfoldable pub param_line : Sizes → Operands ℕ
-param_line v = alone (index_upto v.names)
+param_line v = one_operand_alone (index_upto v.names)
 
 -- an index into the pool that a kind names, if it names one
 abbrev pub value_index : Sizes → ValueKind → Operand ℕ
-value_index v kind = checked (λ n. has_value v n kind) reasons.Index u30
+value_index v kind = operand_with_test (λ n. has_value v n kind) reasons.Index u30_operand
 
 abbrev pub option_rest : Sizes → Option ValueKind → Operands (ℕ × Unit {0})
 option_rest v (Some kind) = value_index v kind & none
-option_rest v None = u30 & none
+option_rest v None = u30_operand & none
 
 -- `option`: a kind word, and an index into the pool that the kind names
 unfoldable pub option_line : Sizes → Operands OptionValue
-option_line v = seen (λ x. record { kind = x.0; value = x.1.0 }) (λ o. (o.kind, (o.value, tt))) (by value_kind (option_rest v))
+option_line v = map_operands (λ x. record { kind = x.0; value = x.1.0 }) (λ o. (o.kind, (o.value, tt))) (by value_kind_operand (option_rest v))
 
 -- `pname`: a number below 2^30, which need not be the index of a string
 unfoldable pub number_line : Operands ℕ
-number_line = alone u30
+number_line = one_operand_alone u30_operand
 
 -- `metadata`: the name, by the index of a string or 0
 unfoldable pub string_index_line : Sizes → Operands ℕ
-string_index_line v = alone (index_upto v.strings)
+string_index_line v = one_operand_alone (index_upto v.strings)
 
 -- `item`: two strings, each by its index or 0
 unfoldable pub entry_line : Sizes → Operands (ℕ × ℕ)
-entry_line v = seen (λ x. (x.0, x.1.0)) (λ e. (e.0, (e.1, tt))) (index_upto v.strings & (index_upto v.strings & none))
+entry_line v = map_operands (λ x. (x.0, x.1.0)) (λ e. (e.0, (e.1, tt))) (index_upto v.strings & (index_upto v.strings & none))
 
 -- ---- instances, classes and scripts
 
@@ -151,19 +151,19 @@ pub record InstanceHead : Type 0 where
 
 -- `instance`: the name of a class and that of its base, each by the index of a multiname, which may be 0 for the base, and the flags
 unfoldable pub instance_line : Sizes → Operands InstanceHead
-instance_line v = seen (λ x. record { name = x.0; super_name = x.1.0; flags = x.1.1.0 }) (λ i. (i.name, (i.super_name, (i.flags, tt)))) (entry_upto v.names & (index_upto v.names & (number_below 256 & none)))
+instance_line v = map_operands (λ x. record { name = x.0; super_name = x.1.0; flags = x.1.1.0 }) (λ i. (i.name, (i.super_name, (i.flags, tt)))) (entry_upto v.names & (index_upto v.names & (number_below 256 & none)))
 
 -- `protected`: a namespace, by its index or 0
 unfoldable pub protected_line : Sizes → Operands ℕ
-protected_line v = alone (index_upto v.namespaces)
+protected_line v = one_operand_alone (index_upto v.namespaces)
 
 -- `implements`: the name of an interface, by the index of a multiname
 unfoldable pub implements_line : Sizes → Operands ℕ
-implements_line v = alone (entry_upto v.names)
+implements_line v = one_operand_alone (entry_upto v.names)
 
 -- `iinit`, `class` and `script`: the initializer, by the index of a method
 unfoldable pub method_index_line : Sizes → Operands ℕ
-method_index_line v = alone (index_below v.methods)
+method_index_line v = one_operand_alone (index_operand_below v.methods)
 
 -- ---- traits
 
@@ -174,33 +174,33 @@ pub record TraitHead : Type 0 where
   pub body : TraitBody
 
 -- a kind behind a slot's index: there is one unless the index is 0
-abbrev pub slot_kind : Sizes → ℕ → Operand ValueKind
-slot_kind v n = checked (λ kind. has_value v n kind) reasons.Index value_kind
+abbrev pub slot_kind_operand : Sizes → ℕ → Operand ValueKind
+slot_kind_operand v n = operand_with_test (λ kind. has_value v n kind) reasons.Index value_kind_operand
 
 abbrev pub kind_or : Option ValueKind → ValueKind
 kind_or (Some kind) = kind
 kind_or None = values.Undefined
 
 abbrev pub slot_rest : Sizes → Option ℕ → Operands (Option ValueKind)
-slot_rest v (Some zero) = seen (λ x. None) (λ o. tt) none
-slot_rest v (Some (suc n)) = seen (λ x. Some x.0) (λ o. (kind_or o, tt)) (slot_kind v (suc n) & none)
-slot_rest v None = seen (λ x. Some x.0) (λ o. (kind_or o, tt)) (value_kind & none)
+slot_rest v (Some zero) = map_operands (λ x. None) (λ o. tt) none
+slot_rest v (Some (suc n)) = map_operands (λ x. Some x.0) (λ o. (kind_or o, tt)) (slot_kind_operand v (suc n) & none)
+slot_rest v None = map_operands (λ x. Some x.0) (λ o. (kind_or o, tt)) (value_kind_operand & none)
 
-abbrev pub slot_value_of : ℕ × Option ValueKind → Option OptionValue
-slot_value_of (n, None) = None
-slot_value_of (n, Some kind) = Some (record { kind = kind; value = n })
+abbrev pub slot_value_of_parts : ℕ × Option ValueKind → Option OptionValue
+slot_value_of_parts (n, None) = None
+slot_value_of_parts (n, Some kind) = Some (record { kind = kind; value = n })
 
 abbrev pub slot_value_in : Option OptionValue → ℕ × Option ValueKind
 slot_value_in None = (0, None)
 slot_value_in (Some o) = (o.value, Some o.kind)
 
 -- the value of a slot: an index, and behind an index that isn't 0 a kind word
-unfoldable pub slot_value : Sizes → Operands (Option OptionValue)
-slot_value v = seen slot_value_of slot_value_in (by u30 (slot_rest v))
+unfoldable pub slot_value_operand : Sizes → Operands (Option OptionValue)
+slot_value_operand v = map_operands slot_value_of_parts slot_value_in (by u30_operand (slot_rest v))
 
-abbrev pub slot_in : TraitBody → ℕ × (ℕ × Option OptionValue)
-slot_in (bodies.Slot id ty value constant) = (id, (ty, value))
-slot_in _ = (0, (0, None))
+abbrev pub slot_parts : TraitBody → ℕ × (ℕ × Option OptionValue)
+slot_parts (bodies.Slot id ty value constant) = (id, (ty, value))
+slot_parts _ = (0, (0, None))
 
 abbrev pub pair_in : TraitBody → ℕ × (ℕ × Unit {0})
 pair_in (bodies.Slot id ty value constant) = (0, (0, tt))
@@ -211,32 +211,32 @@ pair_in (bodies.Class id class) = (id, (class, tt))
 pair_in (bodies.Function id method) = (id, (method, tt))
 
 abbrev pub slot_fields : Sizes → Operands (ℕ × (ℕ × Option OptionValue))
-slot_fields v = u30 & (index_upto v.names & slot_value v)
+slot_fields v = u30_operand & (index_upto v.names & slot_value_operand v)
 
 abbrev pub pair_fields : ℕ → Operands (ℕ × (ℕ × Unit {0}))
-pair_fields size = u30 & (index_below size & none)
+pair_fields size = u30_operand & (index_operand_below size & none)
 
-abbrev pub trait_fields : Sizes → TraitKind → Operands TraitBody
-trait_fields v traits.Slot = seen (λ x. bodies.Slot x.0 x.1.0 x.1.1 false) slot_in (slot_fields v)
-trait_fields v traits.Const = seen (λ x. bodies.Slot x.0 x.1.0 x.1.1 true) slot_in (slot_fields v)
-trait_fields v traits.Method = seen (λ x. bodies.Method x.0 x.1.0) pair_in (pair_fields v.methods)
-trait_fields v traits.Getter = seen (λ x. bodies.Getter x.0 x.1.0) pair_in (pair_fields v.methods)
-trait_fields v traits.Setter = seen (λ x. bodies.Setter x.0 x.1.0) pair_in (pair_fields v.methods)
-trait_fields v traits.Class = seen (λ x. bodies.Class x.0 x.1.0) pair_in (pair_fields v.classes)
-trait_fields v traits.Function = seen (λ x. bodies.Function x.0 x.1.0) pair_in (pair_fields v.methods)
+abbrev pub trait_operands : Sizes → TraitKind → Operands TraitBody
+trait_operands v traits.Slot = map_operands (λ x. bodies.Slot x.0 x.1.0 x.1.1 false) slot_parts (slot_fields v)
+trait_operands v traits.Const = map_operands (λ x. bodies.Slot x.0 x.1.0 x.1.1 true) slot_parts (slot_fields v)
+trait_operands v traits.Method = map_operands (λ x. bodies.Method x.0 x.1.0) pair_in (pair_fields v.methods)
+trait_operands v traits.Getter = map_operands (λ x. bodies.Getter x.0 x.1.0) pair_in (pair_fields v.methods)
+trait_operands v traits.Setter = map_operands (λ x. bodies.Setter x.0 x.1.0) pair_in (pair_fields v.methods)
+trait_operands v traits.Class = map_operands (λ x. bodies.Class x.0 x.1.0) pair_in (pair_fields v.classes)
+trait_operands v traits.Function = map_operands (λ x. bodies.Function x.0 x.1.0) pair_in (pair_fields v.methods)
 
 -- the attributes, the name, and what the kind asks for
 abbrev pub trait_rest : Sizes → Option TraitKind → Operands TraitHead
-trait_rest v (Some kind) = seen (λ x. record { attrs = x.0; name = x.1.0; body = x.1.1 }) (λ t. (t.attrs, (t.name, t.body))) (number_below 16 & (entry_upto v.names & trait_fields v kind))
+trait_rest v (Some kind) = map_operands (λ x. record { attrs = x.0; name = x.1.0; body = x.1.1 }) (λ t. (t.attrs, (t.name, t.body))) (number_below 16 & (entry_upto v.names & trait_operands v kind))
 trait_rest v None = unseen (record { attrs = 0; name = 0; body = bodies.Method 0 0 })
 
 -- `trait`: a kind word, the attributes, the name, by the index of a multiname, and the fields of the kind
 unfoldable pub trait_line : Sizes → Operands TraitHead
-trait_line v = seen (λ x. x.1) (λ t. (trait_kind_in t.body, t)) (by trait_kind (trait_rest v))
+trait_line v = map_operands (λ x. x.1) (λ t. (trait_kind_in t.body, t)) (by trait_kind_operand (trait_rest v))
 
 -- `tmeta`: metadata of a trait, by its index
 unfoldable pub trait_metadata_line : Sizes → Operands ℕ
-trait_metadata_line v = alone (index_below v.metadata)
+trait_metadata_line v = one_operand_alone (index_operand_below v.metadata)
 
 -- ---- bodies
 
@@ -251,14 +251,14 @@ pub record BodyHead : Type 0 where
 -- `body`: the method, by its index, and four sizes
 unfoldable pub body_line : Sizes → Operands BodyHead
 body_line v =
-    seen (λ x. record { method = x.0; max_stack = x.1.0; local_count = x.1.1.0; init_scope = x.1.1.1.0; max_scope = x.1.1.1.1.0 })
+    map_operands (λ x. record { method = x.0; max_stack = x.1.0; local_count = x.1.1.0; init_scope = x.1.1.1.0; max_scope = x.1.1.1.1.0 })
     (λ b. (b.method, (b.max_stack, (b.local_count, (b.init_scope, (b.max_scope, tt))))))
-    (index_below v.methods & (u30 & (u30 & (u30 & (u30 & none)))))
+    (index_operand_below v.methods & (u30_operand & (u30_operand & (u30_operand & (u30_operand & none)))))
 
 -- `catch`: three labels, and the type and the name of the variable, each by the index of a multiname or 0
 unfoldable pub catch_line : Sizes → Operands Handler
 catch_line v =
-    seen (λ x. record { from = x.0; to = x.1.0; target = x.1.1.0; exc_type = x.1.1.1.0; var_name = x.1.1.1.1.0 })
+    map_operands (λ x. record { from = x.0; to = x.1.0; target = x.1.1.0; exc_type = x.1.1.1.0; var_name = x.1.1.1.1.0 })
     (λ h. (h.from, (h.to, (h.target, (h.exc_type, (h.var_name, tt))))))
     (target & (target & (target & (index_upto v.names & (index_upto v.names & none)))))
 
@@ -275,12 +275,12 @@ opcode_of (instrs.Short z) = 0x25
 opcode_of (instrs.ScopeObject n) = 0x65
 opcode_of (instrs.Debug kind name reg extra) = 0xef
 
-abbrev pub first_of : Instr → ℕ
-first_of (instrs.One op n) = n
-first_of (instrs.Two op n m) = n
-first_of (instrs.Branch op t) = t
-first_of (instrs.ScopeObject n) = n
-first_of _ = 0
+abbrev pub first_operand : Instr → ℕ
+first_operand (instrs.One op n) = n
+first_operand (instrs.Two op n m) = n
+first_operand (instrs.Branch op t) = t
+first_operand (instrs.ScopeObject n) = n
+first_operand _ = 0
 
 abbrev pub second_of : Instr → ℕ
 second_of (instrs.Two op n m) = m
@@ -305,24 +305,24 @@ debug_in _ = (0, (0, (0, (0, tt))))
 
 -- what follows the name of an instruction, by the form of its opcode; a switch has a case at least
 abbrev pub instruction_fields : ℕ → Form → Operands Instr
-instruction_fields op forms.Plain = seen (λ x. instrs.Plain op) (λ i. tt) none
-instruction_fields op forms.One = seen (λ x. instrs.One op x.0) (λ i. (first_of i, tt)) (u30 & none)
-instruction_fields op forms.Two = seen (λ x. instrs.Two op x.0 x.1.0) (λ i. (first_of i, (second_of i, tt))) (u30 & (u30 & none))
-instruction_fields op forms.Branch = seen (λ x. instrs.Branch op x.0) (λ i. (first_of i, tt)) (target & none)
-instruction_fields op forms.Switch = seen (λ x. instrs.Switch x.0 (x.1.0 ∷ x.1.1)) switch_in (target & (target & several target))
-instruction_fields op forms.Byte = seen (λ x. instrs.Byte x.0) (λ i. (signed_in i, tt)) (signed_between (negsuc 127) (pos 127) & none)
-instruction_fields op forms.Short = seen (λ x. instrs.Short x.0) (λ i. (signed_in i, tt)) (signed_between (negsuc 32767) (pos 32767) & none)
-instruction_fields op forms.ScopeObject = seen (λ x. instrs.ScopeObject x.0) (λ i. (first_of i, tt)) (number_below 256 & none)
-instruction_fields op forms.Debug = seen (λ x. instrs.Debug x.0 x.1.0 x.1.1.0 x.1.1.1.0) debug_in (number_below 256 & (u30 & (number_below 256 & (u30 & none))))
+instruction_fields op forms.Plain = map_operands (λ x. instrs.Plain op) (λ i. tt) none
+instruction_fields op forms.One = map_operands (λ x. instrs.One op x.0) (λ i. (first_operand i, tt)) (u30_operand & none)
+instruction_fields op forms.Two = map_operands (λ x. instrs.Two op x.0 x.1.0) (λ i. (first_operand i, (second_of i, tt))) (u30_operand & (u30_operand & none))
+instruction_fields op forms.Branch = map_operands (λ x. instrs.Branch op x.0) (λ i. (first_operand i, tt)) (target & none)
+instruction_fields op forms.Switch = map_operands (λ x. instrs.Switch x.0 (x.1.0 ∷ x.1.1)) switch_in (target & (target & several target))
+instruction_fields op forms.Byte = map_operands (λ x. instrs.Byte x.0) (λ i. (signed_in i, tt)) (signed_between (negsuc 127) (pos 127) & none)
+instruction_fields op forms.Short = map_operands (λ x. instrs.Short x.0) (λ i. (signed_in i, tt)) (signed_between (negsuc 32767) (pos 32767) & none)
+instruction_fields op forms.ScopeObject = map_operands (λ x. instrs.ScopeObject x.0) (λ i. (first_operand i, tt)) (number_below 256 & none)
+instruction_fields op forms.Debug = map_operands (λ x. instrs.Debug x.0 x.1.0 x.1.1.0 x.1.1.1.0) debug_in (number_below 256 & (u30_operand & (number_below 256 & (u30_operand & none))))
 
 -- no instruction has the opcode
 abbrev pub no_instruction : Operands Instr
 no_instruction = record { items = λ i. []; fits = λ i. ⊥; counts = λ labels tokens. true; value = λ labels tokens. instrs.Plain 0; faults = λ labels tokens. reasons.Word ∷ [] }
 
-abbrev pub by_form : ℕ → Option Form → Operands Instr
-by_form op (Some form) = instruction_fields op form
-by_form op None = no_instruction
+abbrev pub operands_by_form : ℕ → Option Form → Operands Instr
+operands_by_form op (Some form) = instruction_fields op form
+operands_by_form op None = no_instruction
 
 -- the line of an instruction: what follows the name that the opcode has
-unfoldable pub instruction_line : ℕ → Operands Instr
-instruction_line op = by_form op (form_at op)
+unfoldable pub instruction_operands : ℕ → Operands Instr
+instruction_operands op = operands_by_form op (form_at op)

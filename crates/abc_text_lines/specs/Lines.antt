@@ -36,8 +36,8 @@ pub data Shown : Type 0 where
   Line : Word → List Item → Shown
   Labels : ℕ → Shown
 
-abbrev pub places : List Row → List ℕ
-places rows = map (λ row. place_of row.word) rows
+abbrev pub line_places : List Row → List ℕ
+line_places rows = map (λ row. place_of row.word) rows
 
 abbrev pub places_shown : List Shown → List ℕ
 places_shown [] = []

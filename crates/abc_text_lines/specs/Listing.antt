@@ -3,7 +3,7 @@ use Rattle.std.specs.Prelude.{ℕ, ◌+◌, ◌-◌, ◌/◌, ◌%◌, Bool, tru
 use Rattle.std.specs.Fmt.{signed_decimal}
 use Rattle.std.specs.List.{flat_map}
 use Rattle.std.specs.declared.option.Option.{Option}
-use Rattle.abc_base.specs.Escapes.{escaped, hex_digit}
+use Rattle.abc_base.specs.Escapes.{with_escapes, hex_digit}
 use Rattle.abc_text_lines.specs.declared.word.Word.{Word}
 use Rattle.abc_text_lines.specs.declared.word.Word.TheVariants as words
 use Rattle.abc_text_lines.specs.Tokens.{Token, Bare, Quoted}
@@ -58,8 +58,8 @@ word_name words.Label = []
 word_name words.Unknown = []
 
 -- two hexadecimal digits for each byte, in lower case
-abbrev pub hex_of : List ℕ → List ℕ
-hex_of bytes = flat_map (λ byte. hex_digit (byte / 16) ∷ hex_digit (byte % 16) ∷ []) bytes
+abbrev pub listing_hex : List ℕ → List ℕ
+listing_hex bytes = flat_map (λ byte. hex_digit (byte / 16) ∷ hex_digit (byte % 16) ∷ []) bytes
 
 -- the label of an instruction: `L` and its number
 abbrev pub label_of : ℕ → List ℕ
@@ -69,7 +69,7 @@ abbrev pub token_of : Item → Token
 token_of (Number n) = Bare (decimal n)
 token_of (Signed z) = Bare (signed_decimal z)
 token_of (Text bytes) = Quoted bytes
-token_of (Eight bytes) = Bare (hex_of bytes)
+token_of (Eight bytes) = Bare (listing_hex bytes)
 token_of (Kind kind) = Bare kind
 token_of (Target n) = Bare (label_of n)
 
@@ -77,7 +77,7 @@ token_of (Target n) = Bare (label_of n)
 
 -- a space, `;`, a space and the first 16 bytes of a text between quotes
 abbrev pub quoted_comment : List ℕ → List ℕ
-quoted_comment text = codes " ; \"" ++ (escaped (take 16 text) ++ codes "\"")
+quoted_comment text = codes " ; \"" ++ (with_escapes (take 16 text) ++ codes "\"")
 
 -- the string of an index that counts from 1; 0 is the empty text
 abbrev pub string_at : Abc → ℕ → List ℕ
@@ -88,15 +88,15 @@ abbrev pub name_comment : Abc → ℕ → List ℕ
 name_comment v n = if nat_eq n 0 then codes " ; *" else quoted_comment (string_at v n)
 
 -- the string that a multiname has, or 0
-abbrev pub name_in : Option Multiname → ℕ
-name_in (Some (names.QName attr ns name)) = name
-name_in (Some (names.Rt attr name)) = name
-name_in (Some (names.Multi attr name set)) = name
-name_in _ = 0
+abbrev pub string_of_name : Option Multiname → ℕ
+string_of_name (Some (names.QName attr ns name)) = name
+string_of_name (Some (names.Rt attr name)) = name
+string_of_name (Some (names.Multi attr name set)) = name
+string_of_name _ = 0
 
 -- of a multiname's index, which counts from 1
 abbrev pub multiname_comment : Abc → ℕ → List ℕ
-multiname_comment v n = name_comment v (name_in (slice_get v.names (n - 1)))
+multiname_comment v n = name_comment v (string_of_name (slice_get v.names (n - 1)))
 
 -- the string of a multiname by its line
 abbrev pub name_shown : Option MultinameKind → List Item → ℕ
@@ -139,16 +139,16 @@ abbrev pub shown_bytes : Abc → List ℕ → Shown → List ℕ
 shown_bytes v named (Line w items) = line_bytes v w items
 shown_bytes v named (Labels n) = if among n named then label_bytes n else []
 
-abbrev pub rendered : Abc → List ℕ → List Shown → List ℕ
-rendered v named lines = flat_map (shown_bytes v named) lines
+abbrev pub listing_bytes : Abc → List ℕ → List Shown → List ℕ
+listing_bytes v named lines = flat_map (shown_bytes v named) lines
 
 abbrev pub target_in : Item → List ℕ
 target_in (Target n) = n ∷ []
 target_in _ = []
 
-abbrev pub targets_in : Shown → List ℕ
-targets_in (Line w items) = flat_map target_in items
-targets_in (Labels n) = []
+abbrev pub targets_of_line : Shown → List ℕ
+targets_of_line (Line w items) = flat_map target_in items
+targets_of_line (Labels n) = []
 
 module _ (v : Abc) where
   -- the lines before the bodies
@@ -166,8 +166,8 @@ module _ (v : Abc) where
 
   -- a body, with a label before each instruction that a branch, a switch or a handler names, and at the end if it is named
   abbrev pub body_text : Body → List ℕ
-  body_text body = rendered v (flat_map targets_in (lines_of_body body)) (lines_of_body body)
+  body_text body = listing_bytes v (flat_map targets_of_line (lines_of_body body)) (lines_of_body body)
 
   -- the bytes of the one text of a file: the lines before the bodies, and then each body
   unfoldable pub listing : List ℕ
-  listing = rendered v [] quiet_lines ++ flat_map body_text v.bodies
+  listing = listing_bytes v [] quiet_lines ++ flat_map body_text v.bodies

@@ -10,7 +10,7 @@ use Rattle.abc_file_types.specs.CodeBytes.{code_len}
 use Rattle.abc_text_lines.specs.Law.{Match}
 use Rattle.abc_text_lines.specs.Lines.{Row}
 use Rattle.abc_text_lines.specs.Rows.{Rows}
-use Rattle.abc_text_lines.specs.Wordlines.{faults_of, plain_faults, shows_operands}
+use Rattle.abc_text_lines.specs.Wordlines.{faults_by_rules, plain_faults, shows_operands}
 use Rattle.abc_text_lines.specs.File.{body_below, faults, plain_rules, rules}
 
 -- the next line is a body's, or there is none
@@ -21,7 +21,7 @@ IsBodyNext (row ∷ rows) = row.word ≡ words.Body
 module _ (v : Sizes) (instances : ℕ) where
   -- the lines of code, handlers and traits
   abbrev pub lines_below : Rows (List Instr × (List Handler × List TraitInfo))
-  lines_below = body_below v instances (faults_of (plain_rules v instances)) 0
+  lines_below = body_below v instances (faults_by_rules (plain_rules v instances)) 0
 
   -- The lines up to the next body's or to the end are those of code of 2^23 bytes or more, of handlers and of traits, whose fields are in their ranges.
   pub record HasLongCode (after : List Row) : Type 0 where

@@ -21,9 +21,9 @@ abbrev pub is_numeral : List ℕ → Bool
 is_numeral word = list_all is_digit word && (nat_lt 0 (length word) && (if nat_eq (slice_index word 0) 48 then nat_eq (length word) 1 else true))
 
 -- the sum of each digit times its power of ten
-abbrev pub number_of : List ℕ → ℕ
-number_of [] = 0
-number_of (digit ∷ digits) = (digit - 48) * 10 ^ length digits + number_of digits
+abbrev pub number_of_digits : List ℕ → ℕ
+number_of_digits [] = 0
+number_of_digits (digit ∷ digits) = (digit - 48) * 10 ^ length digits + number_of_digits digits
 
 abbrev pub is_letter : ℕ → Bool
 is_letter byte = (nat_le 65 byte && nat_le byte 90) || (nat_le 97 byte && nat_le byte 122) || nat_eq byte 95
@@ -40,8 +40,8 @@ place_of_label (label ∷ labels) name = if bytes_eq label.name name then Some l
 
 -- a numeral of z, with `-` where it is below 0
 abbrev pub IsSigned : List ℕ → ℤ → Type 0
-IsSigned word (pos n) = (is_numeral word ≡ true) × (number_of word ≡ n)
-IsSigned word (negsuc n) = (digits : List ℕ) × (word ≡ 0x2d ∷ digits) × (is_numeral digits ≡ true) × (number_of digits ≡ suc n)
+IsSigned word (pos n) = (is_numeral word ≡ true) × (number_of_digits word ≡ n)
+IsSigned word (negsuc n) = (digits : List ℕ) × (word ≡ 0x2d ∷ digits) × (is_numeral digits ≡ true) × (number_of_digits digits ≡ suc n)
 
 -- two hexadecimal digits for each byte
 abbrev pub AreHex : List ℕ → List ℕ → Type 0
@@ -50,7 +50,7 @@ AreHex word (byte ∷ bytes) = (high low : ℕ) × (rest : List ℕ) × (word �
 
 -- the token shows the operand, where the labels stand for what they do
 abbrev pub IsToken : List Label → Token → Item → Type 0
-IsToken labels (Bare word) (Number n) = (is_numeral word ≡ true) × (number_of word ≡ n)
+IsToken labels (Bare word) (Number n) = (is_numeral word ≡ true) × (number_of_digits word ≡ n)
 IsToken labels (Bare word) (Signed z) = IsSigned word z
 IsToken labels (Bare word) (Eight bytes) = AreHex word bytes
 IsToken labels (Bare word) (Kind kind) = word ≡ kind
@@ -73,16 +73,16 @@ pub record Operand (A : Type 0) : Type 1 where
   -- what stands for it where it has a fault
   pub default : A
 
-abbrev pub tested : {A : Type 0} → (A → Bool) → AsmReason → Result A AsmReason → Result A AsmReason
-tested test reason (Ok x) = if test x then Ok x else Err reason
-tested test reason (Err r) = Err r
+abbrev pub test_result : {A : Type 0} → (A → Bool) → AsmReason → Result A AsmReason → Result A AsmReason
+test_result test reason (Ok x) = if test x then Ok x else Err reason
+test_result test reason (Err r) = Err r
 
 -- an operand whose value is tested
-abbrev pub checked : {A : Type 0} → (A → Bool) → AsmReason → Operand A → Operand A
-checked test reason p = record { item = p.item; fits = λ x. p.fits x × (test x ≡ true); reads = λ labels token. tested test reason (p.reads labels token); default = p.default }
+abbrev pub operand_with_test : {A : Type 0} → (A → Bool) → AsmReason → Operand A → Operand A
+operand_with_test test reason p = record { item = p.item; fits = λ x. p.fits x × (test x ≡ true); reads = λ labels token. test_result test reason (p.reads labels token); default = p.default }
 
 abbrev pub numeral : Token → Result ℕ AsmReason
-numeral (Bare word) = if is_numeral word then Ok (number_of word) else Err reasons.Number
+numeral (Bare word) = if is_numeral word then Ok (number_of_digits word) else Err reasons.Number
 numeral (Quoted bytes) = Err reasons.Number
 
 -- any number
@@ -91,27 +91,27 @@ any_number = record { item = Number; fits = λ n. Unit {0}; reads = λ labels to
 
 -- a number below a bound
 abbrev pub number_below : ℕ → Operand ℕ
-number_below bound = checked (λ n. nat_lt n bound) reasons.Range any_number
+number_below bound = operand_with_test (λ n. nat_lt n bound) reasons.Range any_number
 
 -- a number below 2^30
-abbrev pub u30 : Operand ℕ
-u30 = number_below (2 ^ 30)
+abbrev pub u30_operand : Operand ℕ
+u30_operand = number_below (2 ^ 30)
 
 -- an index into a table of that many entries that counts from 1, or 0
 abbrev pub index_upto : ℕ → Operand ℕ
-index_upto size = checked (λ n. nat_le n size) reasons.Index u30
+index_upto size = operand_with_test (λ n. nat_le n size) reasons.Index u30_operand
 
 -- an index into such a table that isn't 0
 abbrev pub entry_upto : ℕ → Operand ℕ
-entry_upto size = checked (λ n. nat_lt 0 n && nat_le n size) reasons.Index u30
+entry_upto size = operand_with_test (λ n. nat_lt 0 n && nat_le n size) reasons.Index u30_operand
 
 -- an index into a table of that many entries that counts from 0
-abbrev pub index_below : ℕ → Operand ℕ
-index_below size = checked (λ n. nat_lt n size) reasons.Index u30
+abbrev pub index_operand_below : ℕ → Operand ℕ
+index_operand_below size = operand_with_test (λ n. nat_lt n size) reasons.Index u30_operand
 
 -- that number, and no other
 abbrev pub exactly : ℕ → Operand ℕ
-exactly n = checked (λ m. nat_eq m n) reasons.Range any_number
+exactly n = operand_with_test (λ m. nat_eq m n) reasons.Range any_number
 
 -- the number below 0 that stands after `-`; `-0` is none
 abbrev pub negative : ℕ → Result ℤ AsmReason
@@ -121,8 +121,8 @@ negative (suc n) = Ok (negsuc n)
 abbrev pub signed_of : List ℕ → Result ℤ AsmReason
 signed_of [] = Err reasons.Number
 signed_of (byte ∷ digits) =
-    if nat_eq byte 0x2d then (if is_numeral digits then negative (number_of digits) else Err reasons.Number)
-    else (if is_numeral (byte ∷ digits) then Ok (pos (number_of (byte ∷ digits))) else Err reasons.Number)
+    if nat_eq byte 0x2d then (if is_numeral digits then negative (number_of_digits digits) else Err reasons.Number)
+    else (if is_numeral (byte ∷ digits) then Ok (pos (number_of_digits (byte ∷ digits))) else Err reasons.Number)
 
 abbrev pub signed_token : Token → Result ℤ AsmReason
 signed_token (Bare word) = signed_of word
@@ -134,14 +134,14 @@ any_signed = record { item = Signed; fits = λ z. Unit {0}; reads = λ labels to
 
 -- a signed number from `low` to `high`
 abbrev pub signed_between : ℤ → ℤ → Operand ℤ
-signed_between low high = checked (λ z. int_le low z && int_le z high) reasons.Range any_signed
+signed_between low high = operand_with_test (λ z. int_le low z && int_le z high) reasons.Range any_signed
 
-abbrev pub text_of : Token → Result (List ℕ) AsmReason
-text_of (Quoted bytes) = Ok bytes
-text_of (Bare word) = Err reasons.Kind
+abbrev pub text_of_token : Token → Result (List ℕ) AsmReason
+text_of_token (Quoted bytes) = Ok bytes
+text_of_token (Bare word) = Err reasons.Kind
 
-unfoldable pub text : Operand (List ℕ)
-text = record { item = Text; fits = λ bytes. Unit {0}; reads = λ labels token. text_of token; default = [] }
+unfoldable pub text_operand : Operand (List ℕ)
+text_operand = record { item = Text; fits = λ bytes. Unit {0}; reads = λ labels token. text_of_token token; default = [] }
 
 abbrev pub more_hex : ℕ → Option (List ℕ) → Option (List ℕ)
 more_hex byte None = None
@@ -168,25 +168,25 @@ abbrev pub found_place : Option ℕ → Result ℕ AsmReason
 found_place (Some n) = Ok n
 found_place None = Err reasons.LabelMissing
 
-abbrev pub target_of : List Label → Token → Result ℕ AsmReason
-target_of labels (Bare word) = if is_name word then found_place (place_of_label labels word) else Err reasons.Kind
-target_of labels (Quoted bytes) = Err reasons.Kind
+abbrev pub target_operand : List Label → Token → Result ℕ AsmReason
+target_operand labels (Bare word) = if is_name word then found_place (place_of_label labels word) else Err reasons.Kind
+target_operand labels (Quoted bytes) = Err reasons.Kind
 
 -- a label of the line's body, as the number of the instruction that it stands for
 unfoldable pub target : Operand ℕ
-target = record { item = Target; fits = λ n. Unit {0}; reads = target_of; default = 0 }
+target = record { item = Target; fits = λ n. Unit {0}; reads = target_operand; default = 0 }
 
 abbrev pub found_kind : {K : Type 0} → Option K → Result K AsmReason
 found_kind (Some k) = Ok k
 found_kind None = Err reasons.Kind
 
-abbrev pub kind_of : {K : Type 0} → (List ℕ → Option K) → Token → Result K AsmReason
-kind_of named (Bare word) = found_kind (named word)
-kind_of named (Quoted bytes) = Err reasons.Kind
+abbrev pub kind_operand : {K : Type 0} → (List ℕ → Option K) → Token → Result K AsmReason
+kind_operand named (Bare word) = found_kind (named word)
+kind_operand named (Quoted bytes) = Err reasons.Kind
 
 -- a kind word
 abbrev pub kind : {K : Type 0} → (K → List ℕ) → (List ℕ → Option K) → K → Operand K
-kind name named default = record { item = λ k. Kind (name k); fits = λ k. Unit {0}; reads = λ labels token. kind_of named token; default = default }
+kind name named default = record { item = λ k. Kind (name k); fits = λ k. Unit {0}; reads = λ labels token. kind_operand named token; default = default }
 
 -- ---- the operands of a line
 
@@ -199,9 +199,9 @@ abbrev pub value_or : {A : Type 0} → Result A AsmReason → A → A
 value_or (Ok x) default = x
 value_or (Err r) default = default
 
-abbrev pub value_in : {A : Type 0} → Result A AsmReason → Option A
-value_in (Ok x) = Some x
-value_in (Err r) = None
+abbrev pub value_if_any : {A : Type 0} → Result A AsmReason → Option A
+value_if_any (Ok x) = Some x
+value_if_any (Err r) = None
 
 -- The operands of a line: whether there are as many as wanted, and then their values and all their faults.
 pub record Operands (A : Type 0) : Type 1 where
@@ -225,15 +225,15 @@ none = record { items = λ x. []; fits = λ x. Unit {0}; counts = λ labels toke
 module _ {A B : Type 0} (p : Operand A) (rest : Option A → Operands B) where
   abbrev pub by_counts : List Label → List Token → Bool
   by_counts labels [] = false
-  by_counts labels (token ∷ tokens) = (rest (value_in (p.reads labels token))).counts labels tokens
+  by_counts labels (token ∷ tokens) = (rest (value_if_any (p.reads labels token))).counts labels tokens
 
   abbrev pub by_value : List Label → List Token → A × B
   by_value labels [] = (p.default, (rest None).value labels [])
-  by_value labels (token ∷ tokens) = (value_or (p.reads labels token) p.default, (rest (value_in (p.reads labels token))).value labels tokens)
+  by_value labels (token ∷ tokens) = (value_or (p.reads labels token) p.default, (rest (value_if_any (p.reads labels token))).value labels tokens)
 
   abbrev pub by_faults : List Label → List Token → List AsmReason
   by_faults labels [] = []
-  by_faults labels (token ∷ tokens) = reasons_in (p.reads labels token) ++ (rest (value_in (p.reads labels token))).faults labels tokens
+  by_faults labels (token ∷ tokens) = reasons_in (p.reads labels token) ++ (rest (value_if_any (p.reads labels token))).faults labels tokens
 
   -- one operand, and then others that depend on it; None where it has a fault
   abbrev pub by : Operands (A × B)
@@ -269,8 +269,8 @@ abbrev pub several : {A : Type 0} → Operand A → Operands (List A)
 several p = record { items = several_items p; fits = EachFits p; counts = λ labels tokens. true; value = several_value p; faults = several_faults p }
 
 -- the values of operands, as others, and back: of the others those fit that come back
-abbrev pub seen : {A B : Type 0} → (A → B) → (B → A) → Operands A → Operands B
-seen f g p = record { items = λ y. p.items (g y); fits = λ y. p.fits (g y) × (f (g y) ≡ y); counts = p.counts; value = λ labels tokens. f (p.value labels tokens); faults = p.faults }
+abbrev pub map_operands : {A B : Type 0} → (A → B) → (B → A) → Operands A → Operands B
+map_operands f g p = record { items = λ y. p.items (g y); fits = λ y. p.fits (g y) × (f (g y) ≡ y); counts = p.counts; value = λ labels tokens. f (p.value labels tokens); faults = p.faults }
 
 -- What is promised of an operand.
 pub record IsOperand {A : Type 0} (p : Operand A) : Type 0 where

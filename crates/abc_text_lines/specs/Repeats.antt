@@ -4,7 +4,7 @@ use Rattle.std.specs.List.{AllByRecursion}
 use Rattle.abc_text_lines.specs.declared.word.Word.{Word}
 use Rattle.abc_text_lines.specs.declared.word.Word.TheVariants as words
 use Rattle.abc_text_lines.specs.Lines.{Label, Row}
-use Rattle.abc_text_lines.specs.Texts.{Raw, labels_set, lines_in, method_in, raws_from, rows_of}
+use Rattle.abc_text_lines.specs.Texts.{Raw, labels_set, lines_in, method_named, raws_from, rows_of}
 
 -- the lines of a text that have tokens, before they are seen beside each other
 abbrev pub raws_of : List ℕ → List Raw
@@ -30,12 +30,12 @@ pub record HasBodyIn (front : List Raw) (numeral : List ℕ) : Type 0 where
   pub since : List Raw
   pub parts : front ≡ before ++ line ∷ since
   pub word : line.word ≡ words.Body
-  pub same : method_in line.operands ≡ numeral ∷ []
+  pub same : method_named line.operands ≡ numeral ∷ []
 
 -- a label line, whose label a line of its body before it sets; or a body's line, with the numeral of an earlier body's line
 abbrev pub IsRepeat : Word → List Raw → Raw → Type 0
 IsRepeat words.Label front raw = IsSetIn front raw.name
-IsRepeat words.Body front raw = (numeral : List ℕ) × (method_in raw.operands ≡ numeral ∷ []) × HasBodyIn front numeral
+IsRepeat words.Body front raw = (numeral : List ℕ) × (method_named raw.operands ≡ numeral ∷ []) × HasBodyIn front numeral
 IsRepeat _ front raw = ⊥
 
 -- A line has the labels that the lines of its body set: after its own line, or after the last body's line before it. Before the first body there are none.

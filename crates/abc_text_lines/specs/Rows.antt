@@ -52,15 +52,15 @@ pub record Head (H B : Type 0) : Type 1 where
   pub value : Row → H
 
 -- no lines
-abbrev pub nothing : Rows (Unit {0})
-nothing = record { shows = λ x. []; fits = λ x. Unit {0}; has = []; starts = []; reads = λ rows. Ok (tt, rows) }
+abbrev pub empty_rows : Rows (Unit {0})
+empty_rows = record { shows = λ x. []; fits = λ x. Unit {0}; has = []; starts = []; reads = λ rows. Ok (tt, rows) }
 
 abbrev pub pair_reads : {A B : Type 0} → (List Row → Result (A × List Row) Fault) → (List Row → Result (B × List Row) Fault) → List Row → Result ((A × B) × List Row) Fault
 pair_reads f g rows = f rows >>= λ x. g x.1 >>= λ y. Ok ((x.0, y.0), y.1)
 
 -- one part, and then another
-abbrev pub both : {A B : Type 0} → Rows A → Rows B → Rows (A × B)
-both p q = record {
+abbrev pub both_rows : {A B : Type 0} → Rows A → Rows B → Rows (A × B)
+both_rows p q = record {
   shows = λ x. p.shows x.0 ++ q.shows x.1;
   fits = λ x. p.fits x.0 × q.fits x.1;
   has = p.has ++ q.has;
@@ -69,8 +69,8 @@ both p q = record {
 }
 
 -- the values of a part, as others, and back
-abbrev pub image : {A B : Type 0} → (A → B) → (B → A) → Rows A → Rows B
-image f g p = record {
+abbrev pub image_rows : {A B : Type 0} → (A → B) → (B → A) → Rows A → Rows B
+image_rows f g p = record {
   shows = λ y. p.shows (g y);
   fits = λ y. p.fits (g y);
   has = p.has;
@@ -87,15 +87,15 @@ ItemsFit head below [] = Unit {0}
 ItemsFit head below (x ∷ xs) = head.fits x.0 x.1 × below.fits x.1 × ItemsFit head below xs
 
 -- the first item before the others
-abbrev pub headed : {H B : Type 0} → H → Result ((B × List (H × B)) × List Row) Fault → Result (List (H × B) × List Row) Fault
-headed h r = r >>= λ x. Ok ((h, x.0.0) ∷ x.0.1, x.1)
+abbrev pub item_first : {H B : Type 0} → H → Result ((B × List (H × B)) × List Row) Fault → Result (List (H × B) × List Row) Fault
+item_first h r = r >>= λ x. Ok ((h, x.0.0) ∷ x.0.1, x.1)
 
 abbrev pub items_reads : {H B : Type 0} → Faults → Head H B → Rows B → ℕ → List Row → Result (List (H × B) × List Row) Fault
 items_reads faults head below zero rows = Ok ([], rows)
 items_reads faults head below (suc n) [] = Ok ([], [])
 items_reads faults head below (suc n) (row ∷ rows) =
     if nat_eq (place_of row.word) head.place then
-    unless (least (faults row rows)) row.number (headed (head.value row) (pair_reads below.reads (items_reads faults head below n) rows))
+    unless (least (faults row rows)) row.number (item_first (head.value row) (pair_reads below.reads (items_reads faults head below n) rows))
     else Ok ([], row ∷ rows)
 
 -- any number of lines of one word, each with the lines below it; n is at least the number of lines that are left
@@ -117,13 +117,13 @@ OptionFits head below None = Unit {0}
 OptionFits head below (Some x) = head.fits x.0 x.1 × below.fits x.1
 
 -- the line's value beside that of the lines below it
-abbrev pub topped : {H B : Type 0} → H → Result (B × List Row) Fault → Result (Option (H × B) × List Row) Fault
-topped h r = r >>= λ y. Ok (Some (h, y.0), y.1)
+abbrev pub with_line_value : {H B : Type 0} → H → Result (B × List Row) Fault → Result (Option (H × B) × List Row) Fault
+with_line_value h r = r >>= λ y. Ok (Some (h, y.0), y.1)
 
 abbrev pub option_reads : {H B : Type 0} → Faults → Head H B → Rows B → List Row → Result (Option (H × B) × List Row) Fault
 option_reads faults head below [] = Ok (None, [])
 option_reads faults head below (row ∷ rows) =
-    if nat_eq (place_of row.word) head.place then unless (least (faults row rows)) row.number (topped (head.value row) (below.reads rows)) else Ok (None, row ∷ rows)
+    if nat_eq (place_of row.word) head.place then unless (least (faults row rows)) row.number (with_line_value (head.value row) (below.reads rows)) else Ok (None, row ∷ rows)
 
 -- at most one line of a word, with the lines below it
 abbrev pub optional : {H B : Type 0} → Faults → Head H B → Rows B → Rows (Option (H × B))
@@ -149,18 +149,18 @@ AllFit head [] = Unit {0}
 AllFit head (i ∷ is) = head.fits i tt × AllFit head is
 
 -- the first instruction before the others; a label line is none
-abbrev pub coded : {I : Type 0} → Bool → I → Result (List I × List Row) Fault → Result (List I × List Row) Fault
-coded true i r = r
-coded false i r = r >>= λ x. Ok (i ∷ x.0, x.1)
+abbrev pub instruction_first : {I : Type 0} → Bool → I → Result (List I × List Row) Fault → Result (List I × List Row) Fault
+instruction_first true i r = r
+instruction_first false i r = r >>= λ x. Ok (i ∷ x.0, x.1)
 
 abbrev pub code_reads : {I : Type 0} → Faults → Head I (Unit {0}) → List Row → Result (List I × List Row) Fault
 code_reads faults head [] = Ok ([], [])
 code_reads faults head (row ∷ rows) =
-    if nat_eq (place_of row.word) head.place then unless (least (faults row rows)) row.number (coded (is_label row.word) (head.value row) (code_reads faults head rows)) else Ok ([], row ∷ rows)
+    if nat_eq (place_of row.word) head.place then unless (least (faults row rows)) row.number (instruction_first (is_label row.word) (head.value row) (code_reads faults head rows)) else Ok ([], row ∷ rows)
 
 -- label lines and instructions, of which the first has the number n
-abbrev pub code : {I : Type 0} → Faults → Head I (Unit {0}) → ℕ → Rows (List I)
-code faults head n = record {
+abbrev pub code_rows : {I : Type 0} → Faults → Head I (Unit {0}) → ℕ → Rows (List I)
+code_rows faults head n = record {
   shows = λ is. Labels n ∷ code_after head n is;
   fits = AllFit head;
   has = head.place ∷ [];

@@ -7,7 +7,7 @@ use Rattle.abc_text_lines.specs.declared.word.Word.TheVariants as words
 use Rattle.abc_text_lines.specs.Scanning.{Between, Scan, scan}
 use Rattle.abc_text_lines.specs.Tokens.{Token, Bare, Quoted}
 use Rattle.abc_file_types.specs.declared.tables.Sizes.{Sizes}
-use Rattle.abc_file_types.specs.Opcodes.{named}
+use Rattle.abc_file_types.specs.Opcodes.{names_of_opcodes}
 use Rattle.abc_text_lines.specs.Lines.{Label, Row}
 use Rattle.abc_text_lines.specs.Operands.{is_name}
 use Rattle.abc_text_lines.specs.Wordlines.{count_all, lookup}
@@ -58,11 +58,11 @@ if_name (Some name) = if is_name name then words.Label else words.Unknown
 if_name None = words.Unknown
 
 -- what a word at the head of a line says that the line is: a line word, the name of an instruction, or a label and a colon
-unfoldable pub word_of : List ℕ → Word
-word_of word = or_else (lookup line_words word) (or_else (instruction_in named word) (if_name (before_colon word)))
+unfoldable pub word_of_text : List ℕ → Word
+word_of_text word = or_else (lookup line_words word) (or_else (instruction_in names_of_opcodes word) (if_name (before_colon word)))
 
 abbrev pub token_word : Token → Word
-token_word (Bare word) = word_of word
+token_word (Bare word) = word_of_text word
 token_word (Quoted text) = words.Unknown
 
 abbrev pub token_name : Token → List ℕ
@@ -84,13 +84,13 @@ raw_in number false [] = []
 raw_in number true [] = record { number = number; broken = true; word = words.Unknown; name = []; operands = [] } ∷ []
 raw_in number broken (token ∷ tokens) = record { number = number; broken = broken; word = token_word token; name = token_name token; operands = tokens } ∷ []
 
-abbrev pub raw_of : ℕ → Scan → List Raw → List Raw
-raw_of number s raws = (raw_in number s.broken s.tokens) ++ raws
+abbrev pub raws_of_scan : ℕ → Scan → List Raw → List Raw
+raws_of_scan number s raws = (raw_in number s.broken s.tokens) ++ raws
 
 -- lines without tokens are left out, and counted
 abbrev pub raws_from : ℕ → List (List ℕ) → List Raw
 raws_from number [] = []
-raws_from number (line ∷ lines) = raw_of number (scan line Between) (raws_from (number + 1) lines)
+raws_from number (line ∷ lines) = raws_of_scan number (scan line Between) (raws_from (number + 1) lines)
 
 -- ---- what a line asks of the others
 
@@ -101,11 +101,11 @@ pub data Step : Type 0 where
   Skips : Step
 
 -- what a line does to the labels of a body: a body's line ends them, a label line sets one, an instruction is counted
-abbrev pub step_of : Word → Step
-step_of words.Body = Ends
-step_of words.Label = Sets
-step_of (words.Instruction op) = Counts
-step_of _ = Skips
+abbrev pub label_step : Word → Step
+label_step words.Body = Ends
+label_step words.Label = Sets
+label_step (words.Instruction op) = Counts
+label_step _ = Skips
 
 abbrev pub by_step : {A : Type 0} → Step → A → A → A → A → A
 by_step Ends a b c d = a
@@ -116,38 +116,38 @@ by_step Skips a b c d = d
 -- the labels that the lines of a body set, before the next body, each with the number of the next instruction
 abbrev pub labels_set : ℕ → List Raw → List Label
 labels_set n [] = []
-labels_set n (raw ∷ raws) = by_step (step_of raw.word) [] (record { name = raw.name; number = n } ∷ labels_set n raws) (labels_set (n + 1) raws) (labels_set n raws)
+labels_set n (raw ∷ raws) = by_step (label_step raw.word) [] (record { name = raw.name; number = n } ∷ labels_set n raws) (labels_set (n + 1) raws) (labels_set n raws)
 
 -- the name is one of the others
-abbrev pub is_among : List ℕ → List (List ℕ) → Bool
-is_among name [] = false
-is_among name (other ∷ others) = if bytes_eq other name then true else is_among name others
+abbrev pub is_text_among : List ℕ → List (List ℕ) → Bool
+is_text_among name [] = false
+is_text_among name (other ∷ others) = if bytes_eq other name then true else is_text_among name others
 
 -- the method that a body's line names, by its numeral
-abbrev pub method_in : List Token → List (List ℕ)
-method_in (Bare word ∷ tokens) = word ∷ []
-method_in _ = []
+abbrev pub method_named : List Token → List (List ℕ)
+method_named (Bare word ∷ tokens) = word ∷ []
+method_named _ = []
 
 abbrev pub is_taken : List (List ℕ) → List (List ℕ) → Bool
 is_taken [] taken = false
-is_taken (method ∷ others) taken = is_among method taken
+is_taken (method ∷ others) taken = is_text_among method taken
 
-abbrev pub row : Raw → List Label → Bool → Row
-row raw labels repeated = record { number = raw.number; word = raw.word; broken = raw.broken; operands = raw.operands; labels = labels; repeated = repeated }
+abbrev pub row_of_raw : Raw → List Label → Bool → Row
+row_of_raw raw labels repeated = record { number = raw.number; word = raw.word; broken = raw.broken; operands = raw.operands; labels = labels; repeated = repeated }
 
 -- the lines with the labels of their body, where some labels of the body are set already and some methods have a body
-abbrev pub rows_from : List Label → List (List ℕ) → List (List ℕ) → List Raw → List Row
-rows_from labels set taken [] = []
-rows_from labels set taken (raw ∷ raws) =
-    by_step (step_of raw.word)
-    (row raw (labels_set 0 raws) (is_taken (method_in raw.operands) taken) ∷ rows_from (labels_set 0 raws) [] (method_in raw.operands ++ taken) raws)
-    (row raw labels (is_among raw.name set) ∷ rows_from labels (raw.name ∷ set) taken raws)
-    (row raw labels false ∷ rows_from labels set taken raws)
-    (row raw labels false ∷ rows_from labels set taken raws)
+abbrev pub rows_of_lines : List Label → List (List ℕ) → List (List ℕ) → List Raw → List Row
+rows_of_lines labels set taken [] = []
+rows_of_lines labels set taken (raw ∷ raws) =
+    by_step (label_step raw.word)
+    (row_of_raw raw (labels_set 0 raws) (is_taken (method_named raw.operands) taken) ∷ rows_of_lines (labels_set 0 raws) [] (method_named raw.operands ++ taken) raws)
+    (row_of_raw raw labels (is_text_among raw.name set) ∷ rows_of_lines labels (raw.name ∷ set) taken raws)
+    (row_of_raw raw labels false ∷ rows_of_lines labels set taken raws)
+    (row_of_raw raw labels false ∷ rows_of_lines labels set taken raws)
 
 -- the lines of a text that have tokens
 unfoldable pub rows_of : List ℕ → List Row
-rows_of text = rows_from [] [] [] (raws_from 1 (lines_in text))
+rows_of text = rows_of_lines [] [] [] (raws_from 1 (lines_in text))
 
 -- ---- sizes
 

@@ -47,8 +47,8 @@ IsQuoted bytes (byte ∷ text) =
     ⊎ ((high low : ℕ) × (rest : List ℕ) × (bytes ≡ backslash ∷ high ∷ low ∷ rest) × (is_hex high ≡ true) × (is_hex low ≡ true) × (byte ≡ hex_pair high low) × IsQuoted rest text)
 
 -- Some front of the bytes is a quoted text that a quote ends.
-abbrev pub IsClosed : List ℕ → Type 0
-IsClosed bytes = (inner text rest : List ℕ) × (bytes ≡ inner ++ quote ∷ rest) × IsQuoted inner text
+abbrev pub IsQuoteClosed : List ℕ → Type 0
+IsQuoteClosed bytes = (inner text rest : List ℕ) × (bytes ≡ inner ++ quote ∷ rest) × IsQuoted inner text
 
 -- ---- lines
 
@@ -63,7 +63,7 @@ EndsRun (byte ∷ bytes) = is_run_byte byte ≡ false
 -- What stands after the last token: nothing or a comment. Where the line is broken, it is a quote that isn't closed, or has an escape that is none before it is.
 abbrev pub EndsLine : Bool → List ℕ → Type 0
 EndsLine false bytes = (bytes ≡ []) ⊎ ((comment : List ℕ) × (bytes ≡ semicolon ∷ comment))
-EndsLine true bytes = (others : List ℕ) × (bytes ≡ quote ∷ others) × ¬ IsClosed others
+EndsLine true bytes = (others : List ℕ) × (bytes ≡ quote ∷ others) × ¬ IsQuoteClosed others
 
 -- a longest run of bytes other than blanks, quotes and semicolons
 pub record IsRun (word rest : List ℕ) : Type 0 where

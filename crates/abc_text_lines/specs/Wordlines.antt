@@ -11,7 +11,7 @@ use Rattle.abc_text_lines.specs.Tokens.{Token}
 use Rattle.abc_text_lines.specs.Words.{place_of}
 use Rattle.abc_text_lines.specs.Lines.{Label, Row, Item}
 use Rattle.abc_text_lines.specs.Operands.{AreTokens, Operands, unseen}
-use Rattle.abc_text_lines.specs.Rows.{Faults, Head, Rows, image, many, nothing}
+use Rattle.abc_text_lines.specs.Rows.{Faults, Head, Rows, image_rows, many, empty_rows}
 
 abbrev pub shows_operands : Row → List Item → Type 0
 shows_operands row items = AreTokens row.labels row.operands items
@@ -31,22 +31,22 @@ pub record Rules : Type 0 where
   pub others : Row → List Row → Word → List AsmReason
   pub extra : Row → List Row → List AsmReason
 
-abbrev pub twice : Word → AsmReason
-twice words.Label = reasons.LabelTwice
-twice _ = reasons.SecondBody
+abbrev pub repeat_reason : Word → AsmReason
+repeat_reason words.Label = reasons.LabelTwice
+repeat_reason _ = reasons.SecondBody
 
 -- the reasons at a line but Order and the extra ones
 abbrev pub plain_faults : Rules → Faults
 plain_faults rules row after =
-    if row.broken then reasons.Text ∷ [] else rules.own row.word row.labels row.operands ++ (rules.others row after row.word ++ (if row.repeated then twice row.word ∷ [] else []))
+    if row.broken then reasons.Text ∷ [] else rules.own row.word row.labels row.operands ++ (rules.others row after row.word ++ (if row.repeated then repeat_reason row.word ∷ [] else []))
 
 abbrev pub if_none : List AsmReason → List AsmReason → List AsmReason
 if_none [] more = more
 if_none (r ∷ rs) more = []
 
 -- all reasons at a line but Order
-abbrev pub faults_of : Rules → Faults
-faults_of rules row after = plain_faults rules row after ++ if_none (plain_faults rules row after) (rules.extra row after)
+abbrev pub faults_by_rules : Rules → Faults
+faults_by_rules rules row after = plain_faults rules row after ++ if_none (plain_faults rules row after) (rules.extra row after)
 
 -- ---- counting lines
 
@@ -71,15 +71,15 @@ count_in place (p ∷ ps) = if nat_eq p place then 1 + count_in place ps else co
 -- ---- parts
 
 -- lines of one word, with operands of their own
-abbrev pub line : {A B : Type 0} → Word → Operands A → (A → B → Type 0) → Head A B
-line w p agree = record { place = place_of w; word = λ x. w; items = p.items; fits = λ x y. p.fits x × agree x y; value = λ row. p.value row.labels row.operands }
+abbrev pub lines_of_word : {A B : Type 0} → Word → Operands A → (A → B → Type 0) → Head A B
+lines_of_word w p agree = record { place = place_of w; word = λ x. w; items = p.items; fits = λ x y. p.fits x × agree x y; value = λ row. p.value row.labels row.operands }
 
 abbrev pub always : {A B : Type 0} → A → B → Type 0
 always x y = Unit {0}
 
 -- any number of lines of one word, with no lines below them
-abbrev pub flat : {A : Type 0} → Faults → Word → Operands A → ℕ → Rows (List A)
-flat {A} faults w p n = image (map (λ (x : A × Unit {0}). x.0)) (map (λ (x : A). (x, tt))) (many faults (line w p always) nothing n)
+abbrev pub flat_lines : {A : Type 0} → Faults → Word → Operands A → ℕ → Rows (List A)
+flat_lines {A} faults w p n = image_rows (map (λ (x : A × Unit {0}). x.0)) (map (λ (x : A). (x, tt))) (many faults (lines_of_word w p always) empty_rows n)
 
 -- a part behind which lines of these places can't come either
 abbrev pub closed_to : {A : Type 0} → List ℕ → Rows A → Rows A

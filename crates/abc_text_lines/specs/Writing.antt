@@ -1,23 +1,23 @@
 -- How tokens are written (profile: docs/ASSEMBLY.md, "The text that `dis` writes").
 use Rattle.std.specs.Prelude.{◌≡◌, ℕ, ◌<◌, ◌⊎◌, true, List, [], ◌∷◌, ◌++◌}
 use Rattle.std.specs.List.{AllByRecursion}
-use Rattle.abc_base.specs.Escapes.{escaped}
+use Rattle.abc_base.specs.Escapes.{with_escapes}
 use Rattle.abc_text_lines.specs.Tokens.{Token, Bare, Quoted, is_run_byte, quote, semicolon}
 
 -- a run as it is, and a quoted text with every byte escaped that error lines escape
-abbrev pub written : Token → List ℕ
-written (Bare word) = word
-written (Quoted text) = quote ∷ (escaped text ++ quote ∷ [])
+abbrev pub token_bytes : Token → List ℕ
+token_bytes (Bare word) = word
+token_bytes (Quoted text) = quote ∷ (with_escapes text ++ quote ∷ [])
 
 -- each token behind a space
-abbrev pub spaced : List Token → List ℕ
-spaced [] = []
-spaced (token ∷ tokens) = 0x20 ∷ (written token ++ spaced tokens)
+abbrev pub spaced_tokens : List Token → List ℕ
+spaced_tokens [] = []
+spaced_tokens (token ∷ tokens) = 0x20 ∷ (token_bytes token ++ spaced_tokens tokens)
 
 -- one space between tokens
 abbrev pub written_line : List Token → List ℕ
 written_line [] = []
-written_line (token ∷ tokens) = written token ++ spaced tokens
+written_line (token ∷ tokens) = token_bytes token ++ spaced_tokens tokens
 
 abbrev pub IsWritable : Token → Type 0
 IsWritable (Bare []) = ⊥

@@ -21,5 +21,6 @@ pub fn rows_are_of_lines()
 /// Where nothing else is told of a line, CodeTooLong is told of it exactly where it is a body's, and the lines up to the
 /// next body's or to the end are those of code of 2^23 bytes or more, of handlers and of traits.
 pub fn long_code_is_of_lines()
-    ensures { (v : Sizes) (instances : ℕ) (row : Row) (after : List Row) → TellsLongCode v instances row after }
+    ensures { (v : Sizes) (instances : ℕ) (row : Row) (after : List Row)
+        → TellsLongCode v instances row after }
 {}

@@ -1,5 +1,5 @@
 ghost use Rattle.std.specs.Prelude.{◌≡◌};
-ghost use Rattle.abc_text_lines.specs.Reasons.{rank as rank_of, reason_name};
+ghost use Rattle.abc_text_lines.specs.Reasons.{rank_of_reason as rank_of, asm_reason_name};
 
 /// Why a text is refused. Of the reasons that hold at a line the first in this order is told.
 #[derive(Clone, Copy, Debug, PartialEq, Eq)]
@@ -62,7 +62,7 @@ impl AsmReason {
 
     /// The reason's name, as error lines show it.
     pub fn name(&self) -> &[u8]
-        ensures { result.now ≡ reason_name self.now }
+        ensures { result.now ≡ asm_reason_name self.now }
     {
         match self {
             AsmReason::Text => b"Text",

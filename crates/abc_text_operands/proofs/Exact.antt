@@ -6,7 +6,7 @@ use Rattle.abc_text_lines.specs.declared.reason.AsmReason.{AsmReason}
 use Rattle.abc_text_lines.specs.declared.reason.AsmReason.TheVariants as reasons
 use Rattle.abc_text_lines.specs.Tokens.{Token}
 use Rattle.abc_text_lines.proofs.Bools.{split_bool}
-use Rattle.abc_text_lines.specs.Operands.{any_number, exactly, number_below, numeral, tested}
+use Rattle.abc_text_lines.specs.Operands.{any_number, exactly, number_below, numeral, test_result}
 
 abbrev ok_as : ℕ → Result ℕ AsmReason
 ok_as n = Ok n
@@ -15,7 +15,7 @@ abbrev err_as : AsmReason → Result ℕ AsmReason
 err_as r = Err r
 
 -- the value of one test, by another test of it
-one_test : (f g : ℕ → Bool) (r : Result ℕ AsmReason) (m : ℕ) → Ok m ≡ tested f reasons.Range r → g m ≡ true → Ok m ≡ tested g reasons.Range r
+one_test : (f g : ℕ → Bool) (r : Result ℕ AsmReason) (m : ℕ) → Ok m ≡ test_result f reasons.Range r → g m ≡ true → Ok m ≡ test_result g reasons.Range r
 one_test f g (Ok k) m e good =
     elim (split_bool (f k)) [
       | inl t ↦ let u : ok_as m ≡ cond (f k) (ok_as k) (err_as reasons.Range) = e in let same : ok_as m ≡ ok_as k = u ∙ (rw t refl) in let is : m ≡ k = cc in let v : g k ≡ true = sym (ap g is) ∙ good in rw v same
@@ -23,7 +23,7 @@ one_test f g (Ok k) m e good =
     ]
 one_test f g (Err x) m e good = absurd cc
 
-other_test : (f g : ℕ → Bool) (r : Result ℕ AsmReason) (m : ℕ) → Ok m ≡ tested f reasons.Range r → g m ≡ false → Err reasons.Range ≡ tested g reasons.Range r
+other_test : (f g : ℕ → Bool) (r : Result ℕ AsmReason) (m : ℕ) → Ok m ≡ test_result f reasons.Range r → g m ≡ false → Err reasons.Range ≡ test_result g reasons.Range r
 other_test f g (Ok k) m e bad =
     elim (split_bool (f k)) [
       | inl t ↦ let u : ok_as m ≡ cond (f k) (ok_as k) (err_as reasons.Range) = e in let same : ok_as m ≡ ok_as k = u ∙ (rw t refl) in let is : m ≡ k = cc in let v : g k ≡ false = sym (ap g is) ∙ bad in rw v refl
@@ -31,7 +31,7 @@ other_test f g (Ok k) m e bad =
     ]
 other_test f g (Err x) m e bad = absurd cc
 
-no_test : (f g : ℕ → Bool) (r : Result ℕ AsmReason) (s : AsmReason) → Err s ≡ tested f reasons.Range r → ((k : ℕ) → f k ≡ false → g k ≡ false) → Err s ≡ tested g reasons.Range r
+no_test : (f g : ℕ → Bool) (r : Result ℕ AsmReason) (s : AsmReason) → Err s ≡ test_result f reasons.Range r → ((k : ℕ) → f k ≡ false → g k ≡ false) → Err s ≡ test_result g reasons.Range r
 no_test f g (Ok k) s e far =
     elim (split_bool (f k)) [
       | inl t ↦ let u : err_as s ≡ cond (f k) (ok_as k) (err_as reasons.Range) = e in let none : err_as s ≡ ok_as k = u ∙ (rw t refl) in absurd cc

@@ -6,7 +6,7 @@ use Rattle.abc_text_operands.specs.declared.error.LineError.{LineError}
 use Rattle.abc_text_operands.specs.declared.error.LineError.TheVariants as errors
 
 -- the value or the reason is this; want of memory says nothing
-abbrev pub Answers : {A : Type 0} → Result A LineError → Result A AsmReason → Type 0
-Answers (Ok x) is = is ≡ Ok x
-Answers (Err (errors.Refused reason)) is = is ≡ Err reason
-Answers (Err errors.NoMemory) is = Unit {0}
+abbrev pub AnswersOperand : {A : Type 0} → Result A LineError → Result A AsmReason → Type 0
+AnswersOperand (Ok x) is = is ≡ Ok x
+AnswersOperand (Err (errors.Refused reason)) is = is ≡ Err reason
+AnswersOperand (Err errors.NoMemory) is = Unit {0}

@@ -6,13 +6,13 @@ use Rattle.abc_text_lines.specs.declared.reason.AsmReason.{AsmReason}
 use Rattle.abc_text_lines.specs.declared.reason.AsmReason.TheVariants as reasons
 use Rattle.abc_text_lines.specs.Tokens.{Token, Bare, Quoted}
 use Rattle.abc_text_lines.specs.Operands.{entry_upto, found_place, index_upto, is_name}
-use Rattle.abc_text_tokens.specs.Names.{NameMap, found}
-use Rattle.abc_text_operands.specs.Joined.{earlier, joined, mapped}
+use Rattle.abc_text_tokens.specs.Names.{NameMap, found_name}
+use Rattle.abc_text_operands.specs.Joined.{earlier_reason, both_or_reason, map_operand}
 
 -- the values of all tokens, or the first reason of those that they have
 abbrev pub each_result : (Token → Result ℕ AsmReason) → List Token → Result (List ℕ) AsmReason
 each_result read [] = Ok []
-each_result read (token ∷ tokens) = mapped (λ (x : ℕ × List ℕ). x.0 ∷ x.1) (joined (read token) (each_result read tokens))
+each_result read (token ∷ tokens) = map_operand (λ (x : ℕ × List ℕ). x.0 ∷ x.1) (both_or_reason (read token) (each_result read tokens))
 
 -- an entry of a table that counts from 1
 abbrev pub entry_in : ℕ → Token → Result ℕ AsmReason
@@ -22,9 +22,9 @@ abbrev pub index_in : ℕ → Token → Result ℕ AsmReason
 index_in size token = (index_upto size).reads [] token
 
 -- a label, by the places that were found
-abbrev pub place_in : NameMap ℕ → Token → Result ℕ AsmReason
-place_in places (Bare word) = if is_name word then found_place (found places word) else Err reasons.Kind
-place_in places (Quoted bytes) = Err reasons.Kind
+abbrev pub label_place : NameMap ℕ → Token → Result ℕ AsmReason
+label_place places (Bare word) = if is_name word then found_place (found_name places word) else Err reasons.Kind
+label_place places (Quoted bytes) = Err reasons.Kind
 
 -- ---- what was read so far
 
@@ -32,15 +32,15 @@ abbrev pub so_far : Option AsmReason → List ℕ → Result (List ℕ) AsmReaso
 so_far None items = Ok items
 so_far (Some r) items = Err r
 
-abbrev pub onto : Result (List ℕ) AsmReason → Result (List ℕ) AsmReason → Result (List ℕ) AsmReason
-onto (Ok xs) (Ok ys) = Ok (xs ++ ys)
-onto (Ok xs) (Err s) = Err s
-onto (Err r) s = Err (earlier r s)
+abbrev pub onto_operands : Result (List ℕ) AsmReason → Result (List ℕ) AsmReason → Result (List ℕ) AsmReason
+onto_operands (Ok xs) (Ok ys) = Ok (xs ++ ys)
+onto_operands (Ok xs) (Err s) = Err s
+onto_operands (Err r) s = Err (earlier_reason r s)
 
 -- the first of a reason that was noted and one more
 abbrev pub sooner : Option AsmReason → AsmReason → AsmReason
 sooner None s = s
-sooner (Some r) s = earlier {B = List ℕ} r (Err s)
+sooner (Some r) s = earlier_reason {B = List ℕ} r (Err s)
 
 -- the first of the reason that a value has, if it has one, and of another
 abbrev pub reason_after : Result ℕ AsmReason → AsmReason → AsmReason

@@ -2,28 +2,28 @@
 use Rattle.std.specs.Prelude.{nat_le, Ok, Err, List, if◌then◌else◌}
 use Rattle.std.specs.declared.result.Result.{Result}
 use Rattle.abc_text_lines.specs.declared.reason.AsmReason.{AsmReason}
-use Rattle.abc_text_lines.specs.Reasons.{least, rank}
+use Rattle.abc_text_lines.specs.Reasons.{least, rank_of_reason}
 use Rattle.abc_text_lines.specs.Tokens.{Token}
-use Rattle.abc_text_lines.specs.Firsts.{told}
+use Rattle.abc_text_lines.specs.Firsts.{value_or_reason}
 use Rattle.abc_text_lines.specs.Lines.{Label}
 use Rattle.abc_text_lines.specs.Operands.{Operands, reasons_of}
 
 -- the reason r, or the reason of the result where that one is tried earlier
-abbrev pub earlier : {B : Type 0} → AsmReason → Result B AsmReason → AsmReason
-earlier r (Ok y) = r
-earlier r (Err s) = if nat_le (rank r) (rank s) then r else s
+abbrev pub earlier_reason : {B : Type 0} → AsmReason → Result B AsmReason → AsmReason
+earlier_reason r (Ok y) = r
+earlier_reason r (Err s) = if nat_le (rank_of_reason r) (rank_of_reason s) then r else s
 
 -- both values, or the first reason of those that either has
-abbrev pub joined : {A B : Type 0} → Result A AsmReason → Result B AsmReason → Result (A × B) AsmReason
-joined (Ok x) (Ok y) = Ok (x, y)
-joined (Ok x) (Err s) = Err s
-joined (Err r) s = Err (earlier r s)
+abbrev pub both_or_reason : {A B : Type 0} → Result A AsmReason → Result B AsmReason → Result (A × B) AsmReason
+both_or_reason (Ok x) (Ok y) = Ok (x, y)
+both_or_reason (Ok x) (Err s) = Err s
+both_or_reason (Err r) s = Err (earlier_reason r s)
 
 -- a value as another; a fault stays
-abbrev pub mapped : {A B : Type 0} → (A → B) → Result A AsmReason → Result B AsmReason
-mapped f (Ok x) = Ok (f x)
-mapped f (Err r) = Err r
+abbrev pub map_operand : {A B : Type 0} → (A → B) → Result A AsmReason → Result B AsmReason
+map_operand f (Ok x) = Ok (f x)
+map_operand f (Err r) = Err r
 
 -- what a line's operands say: their value, or the first of their faults
 abbrev pub line_result : {A : Type 0} → Operands A → List Label → List Token → Result A AsmReason
-line_result p labels tokens = told (least (reasons_of p labels tokens)) (p.value labels tokens)
+line_result p labels tokens = value_or_reason (least (reasons_of p labels tokens)) (p.value labels tokens)

@@ -10,10 +10,10 @@ use Rattle.abc_file_types.specs.declared.traits.TraitKind.TheVariants as traits
 use Rattle.abc_file_types.specs.declared.traits.TraitBody.{TraitBody}
 use Rattle.abc_file_types.specs.declared.traits.TraitBody.TheVariants as bodies
 use Rattle.abc_text_lines.specs.Lines.{Label}
-use Rattle.abc_text_lines.specs.Operands.{seen}
-use Rattle.abc_text_lines.specs.Kinds.{value_kind}
+use Rattle.abc_text_lines.specs.Operands.{map_operands}
+use Rattle.abc_text_lines.specs.Kinds.{value_kind_operand}
 use Rattle.abc_text_lines.specs.Lineforms as forms
-use Rattle.abc_text_operands.specs.Joined.{earlier, line_result}
+use Rattle.abc_text_operands.specs.Joined.{earlier_reason, line_result}
 
 -- neither a slot nor a constant
 abbrev pub is_numbered : TraitKind → Bool
@@ -26,22 +26,22 @@ slot_kind_of true = traits.Const
 slot_kind_of false = traits.Slot
 
 -- a trait of a number and an index
-abbrev pub body_of : TraitKind → ℕ → ℕ → TraitBody
-body_of traits.Getter a b = bodies.Getter a b
-body_of traits.Setter a b = bodies.Setter a b
-body_of traits.Class a b = bodies.Class a b
-body_of traits.Function a b = bodies.Function a b
-body_of _ a b = bodies.Method a b
+abbrev pub numbered_trait : TraitKind → ℕ → ℕ → TraitBody
+numbered_trait traits.Getter a b = bodies.Getter a b
+numbered_trait traits.Setter a b = bodies.Setter a b
+numbered_trait traits.Class a b = bodies.Class a b
+numbered_trait traits.Function a b = bodies.Function a b
+numbered_trait _ a b = bodies.Method a b
 
 -- the size of the table that the index is of
-abbrev pub size_for : Sizes → TraitKind → ℕ
-size_for v traits.Class = v.classes
-size_for v _ = v.methods
+abbrev pub size_of_table : Sizes → TraitKind → ℕ
+size_of_table v traits.Class = v.classes
+size_of_table v _ = v.methods
 
 abbrev pub pair_result : ℕ → List Label → List Token → Result (ℕ × ℕ) AsmReason
-pair_result size labels tokens = line_result (seen (λ x. (x.0, x.1.0)) (λ e. (e.0, (e.1, tt))) (forms.pair_fields size)) labels tokens
+pair_result size labels tokens = line_result (map_operands (λ x. (x.0, x.1.0)) (λ e. (e.0, (e.1, tt))) (forms.pair_fields size)) labels tokens
 
 -- the first reason of an index and of the kind that follows it
 abbrev pub unknown_value : AsmReason → List Label → List Token → AsmReason
-unknown_value r labels (token ∷ []) = earlier r (value_kind.reads labels token)
+unknown_value r labels (token ∷ []) = earlier_reason r (value_kind_operand.reads labels token)
 unknown_value r labels _ = reasons.Operands

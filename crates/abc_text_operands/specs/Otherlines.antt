@@ -6,7 +6,7 @@ use Rattle.abc_text_lines.specs.declared.reason.AsmReason.{AsmReason}
 use Rattle.abc_text_lines.specs.Tokens.{Token}
 use Rattle.abc_file_types.specs.declared.traits.TraitKind.{TraitKind}
 use Rattle.abc_text_lines.specs.Operands.{number_below, value_or}
-use Rattle.abc_text_lines.specs.Kinds.{trait_kind}
+use Rattle.abc_text_lines.specs.Kinds.{trait_kind_operand}
 
 -- the two numbers of a version, as the operands of its line have them
 abbrev pub as_version : ℕ × ℕ → ℕ × (ℕ × Unit {0})
@@ -28,5 +28,5 @@ behind_kind (Err r) n = 0
 
 -- the second operand behind a kind of trait, or 0 where there is none below 16
 abbrev pub attrs_in : List Token → ℕ
-attrs_in (kind ∷ attrs ∷ tokens) = behind_kind (trait_kind.reads [] kind) (value_or ((number_below 16).reads [] attrs) 0)
+attrs_in (kind ∷ attrs ∷ tokens) = behind_kind (trait_kind_operand.reads [] kind) (value_or ((number_below 16).reads [] attrs) 0)
 attrs_in _ = 0

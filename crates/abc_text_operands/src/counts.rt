@@ -37,7 +37,8 @@ pub fn three_tokens<'a>(tokens: &[Token<'a>]) -> Option<(Token<'a>, Token<'a>, T
 pub fn five_tokens<'a>(
     tokens: &[Token<'a>],
 ) -> Option<(Token<'a>, Token<'a>, Token<'a>, Token<'a>, Token<'a>)>
-    ensures { MatchOption result (¬ (length tokens.now ≡ 5)) (λ t. tokens.now ≡ t.0 ∷ t.1 ∷ t.2 ∷ t.3 ∷ t.4 ∷ []) }
+    ensures { MatchOption result (¬ (length tokens.now ≡ 5))
+        (λ t. tokens.now ≡ t.0 ∷ t.1 ∷ t.2 ∷ t.3 ∷ t.4 ∷ []) }
 {
     if tokens.len() != 5 {
         return None;

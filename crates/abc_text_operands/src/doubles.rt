@@ -4,7 +4,7 @@ ghost use Rattle.abc_text_lines.specs.Lineforms as forms;
 ghost use Rattle.abc_text_operands.specs.Joined.{line_result};
 ghost use Rattle.abc_text_lines.specs.Lines.{Label};
 ghost use Rattle.abc_text_lines.specs.Operands as operands;
-ghost use Rattle.abc_text_tokens.specs.Walks.{token_of, tokens_of};
+ghost use Rattle.abc_text_tokens.specs.Walks.{token_as_text, tokens_of};
 
 use crate::counts::one_token;
 use abc_file_types::Eight;
@@ -15,7 +15,9 @@ use abc_text_tokens::{Token, hex_pair, is_hex};
 #[tactic(auto, using(crate::proofs::Hexing::hex_next, crate::proofs::Hexing::hex_high, crate::proofs::Hexing::hex_low))]
 fn byte_at(word: &[u8], place: usize) -> Option<u8>
     requires { place + 1 < length word.now }
-    ensures { MatchOption result (operands.hex_bytes (drop place word.now) ≡ None) (λ byte. operands.hex_bytes (drop place word.now) ≡ operands.more_hex byte (operands.hex_bytes (drop (place + 2) word.now))) }
+    ensures { MatchOption result (operands.hex_bytes (drop place word.now) ≡ None)
+        (λ byte. operands.hex_bytes (drop place word.now)
+        ≡ operands.more_hex byte (operands.hex_bytes (drop (place + 2) word.now))) }
 {
     let high = word[place];
     let low = word[place + 1];
@@ -49,7 +51,7 @@ fn eight_bytes(word: &[u8]) -> Result<[u8; 8], AsmReason>
 /// The bytes of a token that is 16 hexadecimal digits.
 #[tactic(auto, unfolding(abc_text_lines::specs::Operands::eight))]
 fn eight(token: Token<'_>) -> Result<[u8; 8], AsmReason>
-    ensures { result ≡ operands.eight.reads [] (token_of token.entry) }
+    ensures { result ≡ operands.eight.reads [] (token_as_text token.entry) }
 {
     match token {
         Token::Bare(word) => eight_bytes(word),

@@ -2,12 +2,12 @@ ghost use Rattle.std.specs.Prelude.{◌≡◌, ℕ, List};
 ghost use Rattle.std.specs.declared.result.Result.{Result};
 ghost use Rattle.abc_text_lines.specs.declared.reason.AsmReason.{AsmReason};
 ghost use Rattle.abc_text_lines.specs.Tokens.{Token as TextToken};
-ghost use Rattle.abc_text_operands.specs.Each.{each_result, entry_in, index_in, place_in, sooner as sooner_of};
+ghost use Rattle.abc_text_operands.specs.Each.{each_result, entry_in, index_in, label_place, sooner as sooner_of};
 ghost use Rattle.abc_text_lines.specs.Lineforms as forms;
-ghost use Rattle.abc_text_operands.specs.Answers.{Answers};
+ghost use Rattle.abc_text_operands.specs.Answers.{AnswersOperand};
 ghost use Rattle.abc_text_operands.specs.Joined.{line_result};
 ghost use Rattle.abc_text_lines.specs.Lines.{Label};
-ghost use Rattle.abc_text_tokens.specs.Walks.{token_of, tokens_of};
+ghost use Rattle.abc_text_tokens.specs.Walks.{token_as_text, tokens_of};
 
 use crate::error::LineError;
 use crate::numbers::{entry_upto, index_upto};
@@ -24,7 +24,7 @@ pub trait Element {
 
     /// The value of a token, or its fault.
     fn read(&self, token: Token<'_>) -> Result<u32, AsmReason>
-        ensures { result ≡ reads self.now (token_of token.entry) };
+        ensures { result ≡ reads self.now (token_as_text token.entry) };
 }
 
 /// Entries of a table of that many, which counts from 1.
@@ -77,7 +77,7 @@ pub fn read_each<E: Element>(
     tokens: &[Token<'_>],
     element: &E,
 ) -> Result<Table<u32>, LineError>
-    ensures { Answers result (each_result (E.reads element.now) (tokens_of tokens.now)) }
+    ensures { AnswersOperand result (each_result (E.reads element.now) (tokens_of tokens.now)) }
 {
     let mut items = Table::new(alloc);
     let mut first: Option<AsmReason> = None;
@@ -98,7 +98,8 @@ pub fn read_each<E: Element>(
 
 /// A set of namespaces. `LineError::NoMemory` where memory runs out.
 pub fn set_line(alloc: Global, tokens: &[Token<'_>], sizes: &Sizes) -> Result<Table<u32>, LineError>
-    ensures { (labels : List Label) → Answers result (line_result (forms.set_line sizes.now) labels (tokens_of tokens.now)) }
+    ensures { (labels : List Label)
+        → AnswersOperand result (line_result (forms.set_line sizes.now) labels (tokens_of tokens.now)) }
 {
     let entries = Entries {
         size: sizes.namespaces,

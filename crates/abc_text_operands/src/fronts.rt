@@ -1,5 +1,5 @@
 ghost use Rattle.std.specs.Prelude.{◌≡◌, ◌∷◌, [], MatchOption};
-ghost use Rattle.abc_text_operands.specs.Answers.{Answers};
+ghost use Rattle.abc_text_operands.specs.Answers.{AnswersOperand};
 
 use crate::error::LineError;
 use abc_text_lines::AsmReason;
@@ -17,7 +17,7 @@ pub fn first_and_rest<'t, 'a>(tokens: &'t [Token<'a>]) -> Option<(Token<'a>, &'t
 
 /// A value that takes no memory.
 pub fn told<T: Drop>(value: Result<T, AsmReason>) -> Result<T, LineError>
-    ensures { Answers result value }
+    ensures { AnswersOperand result value }
 {
     match value {
         Ok(value) => Ok(value),

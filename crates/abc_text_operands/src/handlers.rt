@@ -5,7 +5,7 @@ ghost use Rattle.abc_text_lines.specs.Lines.{Label};
 ghost use Rattle.abc_text_lines.specs.Operands as operands;
 ghost use Rattle.abc_text_operands.specs.Joined.{line_result};
 ghost use Rattle.abc_text_operands.specs.Places.{Places};
-ghost use Rattle.abc_text_tokens.specs.Walks.{token_of, tokens_of};
+ghost use Rattle.abc_text_tokens.specs.Walks.{token_as_text, tokens_of};
 
 use crate::counts::five_tokens;
 use crate::numbers::index_upto;
@@ -17,7 +17,8 @@ use indexmap::IndexMap;
 
 /// The instruction that a label stands for, by the labels that a body sets.
 pub fn target(token: Token<'_>, places: &IndexMap<&[u8], u32>) -> Result<u32, AsmReason>
-    ensures { (labels : List Label) → Places places.now labels → result ≡ operands.target.reads labels (token_of token.entry) }
+    ensures { (labels : List Label) → Places places.now labels
+        → result ≡ operands.target.reads labels (token_as_text token.entry) }
 {
     let Token::Bare(word) = token else {
         return Err(AsmReason::Kind);
@@ -37,7 +38,8 @@ pub fn catch_line(
     sizes: &Sizes,
     places: &IndexMap<&[u8], u32>,
 ) -> Result<Handler, AsmReason>
-    ensures { (labels : List Label) → Places places.now labels → result ≡ line_result (forms.catch_line sizes.now) labels (tokens_of tokens.now) }
+    ensures { (labels : List Label) → Places places.now labels
+        → result ≡ line_result (forms.catch_line sizes.now) labels (tokens_of tokens.now) }
 {
     let Some((from, to, leads, exc_type, var_name)) = five_tokens(tokens) else {
         return Err(AsmReason::Operands);

@@ -1,9 +1,9 @@
 //! The lines of instructions, by what follows the opcode.
 ghost use Rattle.std.specs.Prelude.{◌≡◌, ◌≤ℤ◌, negsuc, pos, List};
-ghost use Rattle.abc_text_operands.specs.Each.{place_in};
+ghost use Rattle.abc_text_operands.specs.Each.{label_place};
 ghost use Rattle.abc_text_lines.specs.Lineforms as lines;
-ghost use Rattle.abc_text_operands.specs.Answers.{Answers};
-ghost use Rattle.abc_text_operands.specs.Joined.{line_result, mapped};
+ghost use Rattle.abc_text_operands.specs.Answers.{AnswersOperand};
+ghost use Rattle.abc_text_operands.specs.Joined.{line_result, map_operand};
 ghost use Rattle.abc_text_operands.specs.Places.{Places};
 ghost use Rattle.abc_text_lines.specs.Lines.{Label};
 ghost use Rattle.abc_file_types.specs.declared.code.Instr.TheVariants as instrs;
@@ -33,7 +33,7 @@ pub struct Targets<'m, 'a> {
 }
 
 impl<'m, 'a> Element for Targets<'m, 'a> {
-    ghost reads = { λ s t. place_in s.places.now t };
+    ghost reads = { λ s t. label_place s.places.now t };
 
     fn read(&self, token: Token<'_>) -> Result<u32, AsmReason> {
         target(token, self.places)
@@ -42,7 +42,8 @@ impl<'m, 'a> Element for Targets<'m, 'a> {
 
 /// An opcode alone.
 fn plain(op: u8, tokens: &[Token<'_>]) -> Result<Instr, AsmReason>
-    ensures { (labels : List Label) → result ≡ line_result (lines.instruction_fields op forms.Plain) labels (tokens_of tokens.now) }
+    ensures { (labels : List Label)
+        → result ≡ line_result (lines.instruction_fields op forms.Plain) labels (tokens_of tokens.now) }
 {
     if tokens.is_empty() {
         Ok(Instr::Plain(op))
@@ -53,7 +54,8 @@ fn plain(op: u8, tokens: &[Token<'_>]) -> Result<Instr, AsmReason>
 
 /// A number.
 fn number(op: u8, tokens: &[Token<'_>]) -> Result<Instr, AsmReason>
-    ensures { (labels : List Label) → result ≡ line_result (lines.instruction_fields op forms.One) labels (tokens_of tokens.now) }
+    ensures { (labels : List Label)
+        → result ≡ line_result (lines.instruction_fields op forms.One) labels (tokens_of tokens.now) }
 {
     let Some(token) = one_token(tokens) else {
         return Err(AsmReason::Operands);
@@ -66,7 +68,8 @@ fn number(op: u8, tokens: &[Token<'_>]) -> Result<Instr, AsmReason>
 
 /// Two numbers.
 fn two_numbers(op: u8, tokens: &[Token<'_>]) -> Result<Instr, AsmReason>
-    ensures { (labels : List Label) → result ≡ line_result (lines.instruction_fields op forms.Two) labels (tokens_of tokens.now) }
+    ensures { (labels : List Label)
+        → result ≡ line_result (lines.instruction_fields op forms.Two) labels (tokens_of tokens.now) }
 {
     let Some((first, second)) = two_tokens(tokens) else {
         return Err(AsmReason::Operands);
@@ -79,7 +82,8 @@ fn two_numbers(op: u8, tokens: &[Token<'_>]) -> Result<Instr, AsmReason>
 
 /// A label.
 fn to_label(op: u8, tokens: &[Token<'_>], places: &IndexMap<&[u8], u32>) -> Result<Instr, AsmReason>
-    ensures { (labels : List Label) → Places places.now labels → result ≡ line_result (lines.instruction_fields op forms.Branch) labels (tokens_of tokens.now) }
+    ensures { (labels : List Label) → Places places.now labels
+        → result ≡ line_result (lines.instruction_fields op forms.Branch) labels (tokens_of tokens.now) }
 {
     let Some(token) = one_token(tokens) else {
         return Err(AsmReason::Operands);
@@ -108,7 +112,8 @@ fn short_of(number: i64) -> i16
 
 /// A number from -128 to 127.
 fn small(tokens: &[Token<'_>]) -> Result<Instr, AsmReason>
-    ensures { (labels : List Label) → result ≡ line_result (lines.instruction_fields 0x24 forms.Byte) labels (tokens_of tokens.now) }
+    ensures { (labels : List Label)
+        → result ≡ line_result (lines.instruction_fields 0x24 forms.Byte) labels (tokens_of tokens.now) }
 {
     let Some(token) = one_token(tokens) else {
         return Err(AsmReason::Operands);
@@ -121,7 +126,8 @@ fn small(tokens: &[Token<'_>]) -> Result<Instr, AsmReason>
 
 /// A number from -32768 to 32767.
 fn short(tokens: &[Token<'_>]) -> Result<Instr, AsmReason>
-    ensures { (labels : List Label) → result ≡ line_result (lines.instruction_fields 0x25 forms.Short) labels (tokens_of tokens.now) }
+    ensures { (labels : List Label)
+        → result ≡ line_result (lines.instruction_fields 0x25 forms.Short) labels (tokens_of tokens.now) }
 {
     let Some(token) = one_token(tokens) else {
         return Err(AsmReason::Operands);
@@ -134,7 +140,9 @@ fn short(tokens: &[Token<'_>]) -> Result<Instr, AsmReason>
 
 /// The position of a scope.
 fn scope_object(tokens: &[Token<'_>]) -> Result<Instr, AsmReason>
-    ensures { (labels : List Label) → result ≡ line_result (lines.instruction_fields 0x65 forms.ScopeObject) labels (tokens_of tokens.now) }
+    ensures { (labels : List Label)
+        → result
+        ≡ line_result (lines.instruction_fields 0x65 forms.ScopeObject) labels (tokens_of tokens.now) }
 {
     let Some(token) = one_token(tokens) else {
         return Err(AsmReason::Operands);
@@ -147,7 +155,8 @@ fn scope_object(tokens: &[Token<'_>]) -> Result<Instr, AsmReason>
 
 /// What `debug` has.
 fn debug(tokens: &[Token<'_>]) -> Result<Instr, AsmReason>
-    ensures { (labels : List Label) → result ≡ line_result (lines.instruction_fields 0xef forms.Debug) labels (tokens_of tokens.now) }
+    ensures { (labels : List Label)
+        → result ≡ line_result (lines.instruction_fields 0xef forms.Debug) labels (tokens_of tokens.now) }
 {
     let Some((kind, others)) = first_and_rest(tokens) else {
         return Err(AsmReason::Operands);
@@ -177,7 +186,9 @@ fn switch(
     tokens: &[Token<'_>],
     places: &IndexMap<&[u8], u32>,
 ) -> Result<Instr, LineError>
-    ensures { (labels : List Label) → Places places.now labels → Answers result (line_result (lines.instruction_fields 0x1b forms.Switch) labels (tokens_of tokens.now)) }
+    ensures { (labels : List Label) → Places places.now labels
+        → AnswersOperand result
+        (line_result (lines.instruction_fields 0x1b forms.Switch) labels (tokens_of tokens.now)) }
 {
     let Some((default, cases)) = first_and_rest(tokens) else {
         return Err(LineError::Refused(AsmReason::Operands));
@@ -199,7 +210,7 @@ fn with_cases(
     default: Result<u32, AsmReason>,
     cases: Table<u32>,
 ) -> Result<Instr, LineError>
-    ensures { Answers result (mapped (λ d. instrs.Switch d cases) default) }
+    ensures { AnswersOperand result (map_operand (λ d. instrs.Switch d cases) default) }
 {
     let cases = BoxedList::new(alloc, cases)?;
     match default {
@@ -215,7 +226,8 @@ pub fn instruction_line(
     tokens: &[Token<'_>],
     places: &IndexMap<&[u8], u32>,
 ) -> Result<Instr, LineError>
-    ensures { (labels : List Label) → Places places.now labels → Answers result (line_result (lines.instruction_line op) labels (tokens_of tokens.now)) }
+    ensures { (labels : List Label) → Places places.now labels
+        → AnswersOperand result (line_result (lines.instruction_operands op) labels (tokens_of tokens.now)) }
 {
     match opcode(op) {
         Some(info) => fields(alloc, op, info.form, tokens, places),
@@ -231,7 +243,9 @@ fn fields(
     tokens: &[Token<'_>],
     places: &IndexMap<&[u8], u32>,
 ) -> Result<Instr, LineError>
-    ensures { (labels : List Label) → Places places.now labels → Answers result (line_result (lines.instruction_fields op form) labels (tokens_of tokens.now)) }
+    ensures { (labels : List Label) → Places places.now labels
+        → AnswersOperand result
+        (line_result (lines.instruction_fields op form) labels (tokens_of tokens.now)) }
 {
     match form {
         Form::Plain => told(plain(op, tokens)),

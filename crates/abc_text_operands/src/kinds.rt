@@ -1,7 +1,7 @@
 //! The kind words of each place.
 ghost use Rattle.std.specs.Prelude.{◌≡◌, []};
 ghost use Rattle.abc_text_lines.specs.Kinds as kinds;
-ghost use Rattle.abc_text_tokens.specs.Walks.{token_of};
+ghost use Rattle.abc_text_tokens.specs.Walks.{token_as_text};
 
 use abc_file_types::{MultinameKind, NsKind, TraitKind, ValueKind};
 use abc_text_lines::AsmReason;
@@ -20,7 +20,7 @@ const SPACE_WORDS: [([u8; 16], NsKind); 7] = [
 /// The kind of a namespace.
 #[tactic(auto, unfolding(abc_text_lines::specs::Kinds::space_kind))]
 pub fn space_kind(token: Token<'_>) -> Result<NsKind, AsmReason>
-    ensures { result ≡ kinds.space_kind.reads [] (token_of token.entry) }
+    ensures { result ≡ kinds.space_kind.reads [] (token_as_text token.entry) }
 {
     let Token::Bare(word) = token else {
         return Err(AsmReason::Kind);
@@ -46,9 +46,9 @@ const MULTINAME_WORDS: [([u8; 16], MultinameKind); 11] = [
 ];
 
 /// The kind of a multiname.
-#[tactic(auto, unfolding(abc_text_lines::specs::Kinds::multiname_kind))]
+#[tactic(auto, unfolding(abc_text_lines::specs::Kinds::multiname_kind_operand))]
 pub fn multiname_kind(token: Token<'_>) -> Result<MultinameKind, AsmReason>
-    ensures { result ≡ kinds.multiname_kind.reads [] (token_of token.entry) }
+    ensures { result ≡ kinds.multiname_kind_operand.reads [] (token_as_text token.entry) }
 {
     let Token::Bare(word) = token else {
         return Err(AsmReason::Kind);
@@ -78,9 +78,9 @@ const VALUE_WORDS: [([u8; 16], ValueKind); 15] = [
 ];
 
 /// The kind of a value.
-#[tactic(auto, unfolding(abc_text_lines::specs::Kinds::value_kind))]
+#[tactic(auto, unfolding(abc_text_lines::specs::Kinds::value_kind_operand))]
 pub fn value_kind(token: Token<'_>) -> Result<ValueKind, AsmReason>
-    ensures { result ≡ kinds.value_kind.reads [] (token_of token.entry) }
+    ensures { result ≡ kinds.value_kind_operand.reads [] (token_as_text token.entry) }
 {
     let Token::Bare(word) = token else {
         return Err(AsmReason::Kind);
@@ -102,9 +102,9 @@ const TRAIT_WORDS: [([u8; 16], TraitKind); 7] = [
 ];
 
 /// The kind of a trait.
-#[tactic(auto, unfolding(abc_text_lines::specs::Kinds::trait_kind))]
+#[tactic(auto, unfolding(abc_text_lines::specs::Kinds::trait_kind_operand))]
 pub fn trait_kind(token: Token<'_>) -> Result<TraitKind, AsmReason>
-    ensures { result ≡ kinds.trait_kind.reads [] (token_of token.entry) }
+    ensures { result ≡ kinds.trait_kind_operand.reads [] (token_as_text token.entry) }
 {
     let Token::Bare(word) = token else {
         return Err(AsmReason::Kind);

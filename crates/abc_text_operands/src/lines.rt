@@ -2,7 +2,7 @@
 ghost use Rattle.std.specs.Prelude.{◌≡◌, List};
 ghost use Rattle.abc_text_lines.specs.Lineforms as forms;
 ghost use Rattle.abc_text_lines.specs.Lines.{Label};
-ghost use Rattle.abc_text_operands.specs.Joined.{line_result, mapped};
+ghost use Rattle.abc_text_operands.specs.Joined.{line_result, map_operand};
 ghost use Rattle.abc_text_operands.specs.Heads.{as_body, as_instance, as_method};
 ghost use Rattle.abc_text_tokens.specs.Walks.{tokens_of};
 
@@ -41,7 +41,8 @@ pub struct BodyHead {
 
 /// The type of a parameter.
 pub fn param_line(tokens: &[Token<'_>], sizes: &Sizes) -> Result<u32, AsmReason>
-    ensures { (labels : List Label) → result ≡ line_result (forms.param_line sizes.now) labels (tokens_of tokens.now) }
+    ensures { (labels : List Label)
+        → result ≡ line_result (forms.param_line sizes.now) labels (tokens_of tokens.now) }
 {
     match one_token(tokens) {
         Some(token) => index_upto(token, sizes.names),
@@ -61,7 +62,8 @@ pub fn number_line(tokens: &[Token<'_>]) -> Result<u32, AsmReason>
 
 /// The name of metadata.
 pub fn string_index_line(tokens: &[Token<'_>], sizes: &Sizes) -> Result<u32, AsmReason>
-    ensures { (labels : List Label) → result ≡ line_result (forms.string_index_line sizes.now) labels (tokens_of tokens.now) }
+    ensures { (labels : List Label)
+        → result ≡ line_result (forms.string_index_line sizes.now) labels (tokens_of tokens.now) }
 {
     match one_token(tokens) {
         Some(token) => index_upto(token, sizes.strings),
@@ -71,7 +73,8 @@ pub fn string_index_line(tokens: &[Token<'_>], sizes: &Sizes) -> Result<u32, Asm
 
 /// The protected namespace of an instance.
 pub fn protected_line(tokens: &[Token<'_>], sizes: &Sizes) -> Result<u32, AsmReason>
-    ensures { (labels : List Label) → result ≡ line_result (forms.protected_line sizes.now) labels (tokens_of tokens.now) }
+    ensures { (labels : List Label)
+        → result ≡ line_result (forms.protected_line sizes.now) labels (tokens_of tokens.now) }
 {
     match one_token(tokens) {
         Some(token) => index_upto(token, sizes.namespaces),
@@ -81,7 +84,8 @@ pub fn protected_line(tokens: &[Token<'_>], sizes: &Sizes) -> Result<u32, AsmRea
 
 /// An interface of an instance.
 pub fn implements_line(tokens: &[Token<'_>], sizes: &Sizes) -> Result<u32, AsmReason>
-    ensures { (labels : List Label) → result ≡ line_result (forms.implements_line sizes.now) labels (tokens_of tokens.now) }
+    ensures { (labels : List Label)
+        → result ≡ line_result (forms.implements_line sizes.now) labels (tokens_of tokens.now) }
 {
     match one_token(tokens) {
         Some(token) => entry_upto(token, sizes.names),
@@ -91,7 +95,8 @@ pub fn implements_line(tokens: &[Token<'_>], sizes: &Sizes) -> Result<u32, AsmRe
 
 /// The method of an initializer, a class or a script.
 pub fn method_index_line(tokens: &[Token<'_>], sizes: &Sizes) -> Result<u32, AsmReason>
-    ensures { (labels : List Label) → result ≡ line_result (forms.method_index_line sizes.now) labels (tokens_of tokens.now) }
+    ensures { (labels : List Label)
+        → result ≡ line_result (forms.method_index_line sizes.now) labels (tokens_of tokens.now) }
 {
     match one_token(tokens) {
         Some(token) => index_below(token, sizes.methods),
@@ -101,7 +106,8 @@ pub fn method_index_line(tokens: &[Token<'_>], sizes: &Sizes) -> Result<u32, Asm
 
 /// The metadata of a trait.
 pub fn trait_metadata_line(tokens: &[Token<'_>], sizes: &Sizes) -> Result<u32, AsmReason>
-    ensures { (labels : List Label) → result ≡ line_result (forms.trait_metadata_line sizes.now) labels (tokens_of tokens.now) }
+    ensures { (labels : List Label)
+        → result ≡ line_result (forms.trait_metadata_line sizes.now) labels (tokens_of tokens.now) }
 {
     match one_token(tokens) {
         Some(token) => index_below(token, sizes.metadata),
@@ -111,7 +117,8 @@ pub fn trait_metadata_line(tokens: &[Token<'_>], sizes: &Sizes) -> Result<u32, A
 
 /// An entry of metadata: two strings.
 pub fn entry_line(tokens: &[Token<'_>], sizes: &Sizes) -> Result<(u32, u32), AsmReason>
-    ensures { (labels : List Label) → result ≡ line_result (forms.entry_line sizes.now) labels (tokens_of tokens.now) }
+    ensures { (labels : List Label)
+        → result ≡ line_result (forms.entry_line sizes.now) labels (tokens_of tokens.now) }
 {
     match two_tokens(tokens) {
         Some((key, value)) => two(
@@ -124,7 +131,9 @@ pub fn entry_line(tokens: &[Token<'_>], sizes: &Sizes) -> Result<(u32, u32), Asm
 
 /// A method: its return type, its name and its flags.
 pub fn method_line(tokens: &[Token<'_>], sizes: &Sizes) -> Result<MethodHead, AsmReason>
-    ensures { (labels : List Label) → mapped as_method result ≡ line_result (forms.method_line sizes.now) labels (tokens_of tokens.now) }
+    ensures { (labels : List Label)
+        → map_operand as_method result
+        ≡ line_result (forms.method_line sizes.now) labels (tokens_of tokens.now) }
 {
     let Some((ret, name, flags)) = three_tokens(tokens) else {
         return Err(AsmReason::Operands);
@@ -139,7 +148,9 @@ pub fn method_line(tokens: &[Token<'_>], sizes: &Sizes) -> Result<MethodHead, As
 
 /// An instance: its name, its base and its flags.
 pub fn instance_line(tokens: &[Token<'_>], sizes: &Sizes) -> Result<InstanceHead, AsmReason>
-    ensures { (labels : List Label) → mapped as_instance result ≡ line_result (forms.instance_line sizes.now) labels (tokens_of tokens.now) }
+    ensures { (labels : List Label)
+        → map_operand as_instance result
+        ≡ line_result (forms.instance_line sizes.now) labels (tokens_of tokens.now) }
 {
     let Some((name, super_name, flags)) = three_tokens(tokens) else {
         return Err(AsmReason::Operands);
@@ -158,7 +169,8 @@ pub fn instance_line(tokens: &[Token<'_>], sizes: &Sizes) -> Result<InstanceHead
 
 /// A body: its method and its four sizes.
 pub fn body_line(tokens: &[Token<'_>], sizes: &Sizes) -> Result<BodyHead, AsmReason>
-    ensures { (labels : List Label) → mapped as_body result ≡ line_result (forms.body_line sizes.now) labels (tokens_of tokens.now) }
+    ensures { (labels : List Label)
+        → map_operand as_body result ≡ line_result (forms.body_line sizes.now) labels (tokens_of tokens.now) }
 {
     let Some((method, stack, locals, from, most)) = five_tokens(tokens) else {
         return Err(AsmReason::Operands);

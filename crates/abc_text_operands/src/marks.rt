@@ -5,7 +5,7 @@ ghost use Rattle.abc_text_operands.specs.Otherlines.{attrs_in, flags_in};
 ghost use Rattle.abc_text_lines.specs.Lines.{Label};
 ghost use Rattle.abc_text_lines.specs.Operands as operands;
 ghost use Rattle.abc_file_types.specs.declared.tables.Sizes.{Sizes as TableSizes};
-ghost use Rattle.abc_text_tokens.specs.Walks.{token_of, tokens_of};
+ghost use Rattle.abc_text_tokens.specs.Walks.{token_as_text, tokens_of};
 
 use crate::kinds::trait_kind;
 use crate::numbers::{byte, number_below};
@@ -13,8 +13,10 @@ use abc_text_tokens::Token;
 
 /// The flags of a method's or an instance's line, 0 where there are none.
 pub fn flags_of(tokens: &[Token<'_>]) -> u8
-    ensures of_method { (v : TableSizes) (labels : List Label) → result ≡ ((forms.method_line v).value labels (tokens_of tokens.now)).flags }
-    ensures of_instance { (v : TableSizes) (labels : List Label) → result ≡ ((forms.instance_line v).value labels (tokens_of tokens.now)).flags }
+    ensures of_method { (v : TableSizes) (labels : List Label)
+        → result ≡ ((forms.method_line v).value labels (tokens_of tokens.now)).flags }
+    ensures of_instance { (v : TableSizes) (labels : List Label)
+        → result ≡ ((forms.instance_line v).value labels (tokens_of tokens.now)).flags }
 {
     third_or_zero(tokens)
 }
@@ -35,7 +37,8 @@ fn third_or_zero(tokens: &[Token<'_>]) -> u8
 
 /// The attributes of a trait's line, 0 where there are none.
 pub fn attrs_of(tokens: &[Token<'_>]) -> u8
-    ensures { (v : TableSizes) (labels : List Label) → result ≡ ((forms.trait_line v).value labels (tokens_of tokens.now)).attrs }
+    ensures { (v : TableSizes) (labels : List Label)
+        → result ≡ ((forms.trait_line v).value labels (tokens_of tokens.now)).attrs }
 {
     second_or_zero(tokens)
 }
@@ -56,7 +59,7 @@ fn second_or_zero(tokens: &[Token<'_>]) -> u8
 
 /// A number below 16, or 0 for any other token.
 fn below_16(token: Token<'_>) -> u8
-    ensures { result ≡ operands.value_or ((operands.number_below 16).reads [] (token_of token.entry)) 0 }
+    ensures { result ≡ operands.value_or ((operands.number_below 16).reads [] (token_as_text token.entry)) 0 }
 {
     match number_below(token, 16) {
         Ok(number) => number as u8,

@@ -2,8 +2,8 @@
 ghost use Rattle.std.specs.Prelude.{◌≡◌, List};
 ghost use Rattle.abc_text_operands.specs.Each.{reason_after};
 ghost use Rattle.abc_text_lines.specs.Lineforms as forms;
-ghost use Rattle.abc_text_operands.specs.Answers.{Answers};
-ghost use Rattle.abc_text_operands.specs.Joined.{line_result, mapped};
+ghost use Rattle.abc_text_operands.specs.Answers.{AnswersOperand};
+ghost use Rattle.abc_text_operands.specs.Joined.{line_result, map_operand};
 ghost use Rattle.abc_text_lines.specs.Lines.{Label};
 ghost use Rattle.abc_file_types.specs.declared.names.Multiname.TheVariants as names;
 ghost use Rattle.abc_file_types.specs.declared.names.MultinameKind.TheVariants as kinds;
@@ -24,7 +24,10 @@ use std::alloc::Global;
 
 /// A name in a namespace.
 fn qualified(attr: bool, fields: &[Token<'_>], sizes: &Sizes) -> Result<Multiname, AsmReason>
-    ensures { (labels : List Label) → result ≡ line_result (forms.multiname_fields sizes.now (kinds.QName attr)) labels (tokens_of fields.now) }
+    ensures { (labels : List Label)
+        → result
+        ≡ line_result (forms.multiname_operands sizes.now (kinds.QName attr)) labels
+        (tokens_of fields.now) }
 {
     let Some((ns, name)) = two_tokens(fields) else {
         return Err(AsmReason::Operands);
@@ -40,7 +43,9 @@ fn qualified(attr: bool, fields: &[Token<'_>], sizes: &Sizes) -> Result<Multinam
 
 /// A name whose namespace comes at run time.
 fn late_space(attr: bool, fields: &[Token<'_>], sizes: &Sizes) -> Result<Multiname, AsmReason>
-    ensures { (labels : List Label) → result ≡ line_result (forms.multiname_fields sizes.now (kinds.Rt attr)) labels (tokens_of fields.now) }
+    ensures { (labels : List Label)
+        → result
+        ≡ line_result (forms.multiname_operands sizes.now (kinds.Rt attr)) labels (tokens_of fields.now) }
 {
     let Some(name) = one_token(fields) else {
         return Err(AsmReason::Operands);
@@ -53,7 +58,10 @@ fn late_space(attr: bool, fields: &[Token<'_>], sizes: &Sizes) -> Result<Multina
 
 /// A name that comes at run time with its namespace.
 fn late(attr: bool, fields: &[Token<'_>], _sizes: &Sizes) -> Result<Multiname, AsmReason>
-    ensures { (labels : List Label) → result ≡ line_result (forms.multiname_fields _sizes.now (kinds.RtL attr)) labels (tokens_of fields.now) }
+    ensures { (labels : List Label)
+        → result
+        ≡ line_result (forms.multiname_operands _sizes.now (kinds.RtL attr)) labels
+        (tokens_of fields.now) }
 {
     if fields.is_empty() {
         Ok(Multiname::RtL { attr })
@@ -64,7 +72,10 @@ fn late(attr: bool, fields: &[Token<'_>], _sizes: &Sizes) -> Result<Multiname, A
 
 /// A name in a set of namespaces.
 fn in_set(attr: bool, fields: &[Token<'_>], sizes: &Sizes) -> Result<Multiname, AsmReason>
-    ensures { (labels : List Label) → result ≡ line_result (forms.multiname_fields sizes.now (kinds.Multi attr)) labels (tokens_of fields.now) }
+    ensures { (labels : List Label)
+        → result
+        ≡ line_result (forms.multiname_operands sizes.now (kinds.Multi attr)) labels
+        (tokens_of fields.now) }
 {
     let Some((name, set)) = two_tokens(fields) else {
         return Err(AsmReason::Operands);
@@ -77,7 +88,10 @@ fn in_set(attr: bool, fields: &[Token<'_>], sizes: &Sizes) -> Result<Multiname, 
 
 /// A set of namespaces, whose name comes at run time.
 fn late_name(attr: bool, fields: &[Token<'_>], sizes: &Sizes) -> Result<Multiname, AsmReason>
-    ensures { (labels : List Label) → result ≡ line_result (forms.multiname_fields sizes.now (kinds.MultiL attr)) labels (tokens_of fields.now) }
+    ensures { (labels : List Label)
+        → result
+        ≡ line_result (forms.multiname_operands sizes.now (kinds.MultiL attr)) labels
+        (tokens_of fields.now) }
 {
     let Some(set) = one_token(fields) else {
         return Err(AsmReason::Operands);
@@ -90,7 +104,9 @@ fn late_name(attr: bool, fields: &[Token<'_>], sizes: &Sizes) -> Result<Multinam
 
 /// A type with its parameters. `LineError::NoMemory` where memory runs out.
 fn type_name(alloc: Global, fields: &[Token<'_>], sizes: &Sizes) -> Result<Multiname, LineError>
-    ensures { (labels : List Label) → Answers result (line_result (forms.multiname_fields sizes.now kinds.TypeName) labels (tokens_of fields.now)) }
+    ensures { (labels : List Label)
+        → AnswersOperand result
+        (line_result (forms.multiname_operands sizes.now kinds.TypeName) labels (tokens_of fields.now)) }
 {
     let Some((base, others)) = first_and_rest(fields) else {
         return Err(LineError::Refused(AsmReason::Operands));
@@ -109,7 +125,7 @@ fn with_params(
     base: Result<u32, AsmReason>,
     params: Table<u32>,
 ) -> Result<Multiname, LineError>
-    ensures { Answers result (mapped (λ b. names.TypeName b params) base) }
+    ensures { AnswersOperand result (map_operand (λ b. names.TypeName b params) base) }
 {
     let params = BoxedList::new(alloc, params)?;
     match base {
@@ -130,7 +146,8 @@ pub fn first_of(value: Result<u32, AsmReason>, reason: AsmReason) -> AsmReason
 
 /// A multiname: its kind, and its indices in file order. `LineError::NoMemory` where memory runs out.
 pub fn name_line(alloc: Global, tokens: &[Token<'_>], sizes: &Sizes) -> Result<Multiname, LineError>
-    ensures { (labels : List Label) → Answers result (line_result (forms.name_line sizes.now) labels (tokens_of tokens.now)) }
+    ensures { (labels : List Label)
+        → AnswersOperand result (line_result (forms.name_line sizes.now) labels (tokens_of tokens.now)) }
 {
     let Some((kind, fields)) = first_and_rest(tokens) else {
         return Err(LineError::Refused(AsmReason::Operands));
@@ -148,7 +165,9 @@ fn name_fields(
     fields: &[Token<'_>],
     sizes: &Sizes,
 ) -> Result<Multiname, LineError>
-    ensures { (labels : List Label) → Answers result (line_result (forms.multiname_fields sizes.now kind) labels (tokens_of fields.now)) }
+    ensures { (labels : List Label)
+        → AnswersOperand result
+        (line_result (forms.multiname_operands sizes.now kind) labels (tokens_of fields.now)) }
 {
     match kind {
         MultinameKind::QName { attr } => told(qualified(attr, fields, sizes)),

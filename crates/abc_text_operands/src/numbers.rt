@@ -1,7 +1,7 @@
 ghost use Rattle.std.specs.Prelude.{◌≡◌, ◌^◌, ◌≤◌, [], min, MatchOption, true, false};
-ghost use Rattle.abc_text_lines.specs.Operands.{is_numeral, number_of};
+ghost use Rattle.abc_text_lines.specs.Operands.{is_numeral, number_of_digits};
 ghost use Rattle.abc_text_lines.specs.Operands as operands;
-ghost use Rattle.abc_text_tokens.specs.Walks.{token_of};
+ghost use Rattle.abc_text_tokens.specs.Walks.{token_as_text};
 
 use abc_text_lines::AsmReason;
 use abc_text_tokens::Token;
@@ -11,7 +11,8 @@ const TOO_GREAT: u64 = 1 << 40;
 
 /// The number that a numeral stands for, or one that is too great for any field; `None` for a word that is no numeral.
 pub fn numeral(word: &[u8]) -> Option<u64>
-    ensures { MatchOption result (is_numeral word.now ≡ false) (λ n. (is_numeral word.now ≡ true) × (n ≡ min (number_of word.now) (2 ^ 40))) }
+    ensures { MatchOption result (is_numeral word.now ≡ false)
+        (λ n. (is_numeral word.now ≡ true) × (n ≡ min (number_of_digits word.now) (2 ^ 40))) }
 {
     if word.is_empty() || (word[0] == b'0' && word.len() > 1) {
         return None;
@@ -30,7 +31,7 @@ pub fn numeral(word: &[u8]) -> Option<u64>
 #[tactic(auto, unfolding(abc_text_lines::specs::Operands::any_number))]
 pub fn number_below(token: Token<'_>, bound: u64) -> Result<u32, AsmReason>
     requires { bound ≤ 2 ^ 32 }
-    ensures { result ≡ (operands.number_below bound).reads [] (token_of token.entry) }
+    ensures { result ≡ (operands.number_below bound).reads [] (token_as_text token.entry) }
 {
     let Token::Bare(word) = token else {
         return Err(AsmReason::Number);
@@ -49,7 +50,7 @@ pub fn number_below(token: Token<'_>, bound: u64) -> Result<u32, AsmReason>
 
 /// A number below 256.
 pub fn byte(token: Token<'_>) -> Result<u8, AsmReason>
-    ensures { result ≡ (operands.number_below 256).reads [] (token_of token.entry) }
+    ensures { result ≡ (operands.number_below 256).reads [] (token_as_text token.entry) }
 {
     match number_below(token, 256) {
         Ok(number) => Ok(number as u8),
@@ -59,14 +60,14 @@ pub fn byte(token: Token<'_>) -> Result<u8, AsmReason>
 
 /// A number below 2^30.
 pub fn u30(token: Token<'_>) -> Result<u32, AsmReason>
-    ensures { result ≡ operands.u30.reads [] (token_of token.entry) }
+    ensures { result ≡ operands.u30_operand.reads [] (token_as_text token.entry) }
 {
     number_below(token, 1 << 30)
 }
 
 /// An index into a table of that many entries that counts from 1, or 0.
 pub fn index_upto(token: Token<'_>, size: u32) -> Result<u32, AsmReason>
-    ensures { result ≡ (operands.index_upto size).reads [] (token_of token.entry) }
+    ensures { result ≡ (operands.index_upto size).reads [] (token_as_text token.entry) }
 {
     match u30(token) {
         Ok(index) if index <= size => Ok(index),
@@ -77,7 +78,7 @@ pub fn index_upto(token: Token<'_>, size: u32) -> Result<u32, AsmReason>
 
 /// An index into such a table that isn't 0.
 pub fn entry_upto(token: Token<'_>, size: u32) -> Result<u32, AsmReason>
-    ensures { result ≡ (operands.entry_upto size).reads [] (token_of token.entry) }
+    ensures { result ≡ (operands.entry_upto size).reads [] (token_as_text token.entry) }
 {
     match u30(token) {
         Ok(index) if 0 < index && index <= size => Ok(index),
@@ -88,7 +89,7 @@ pub fn entry_upto(token: Token<'_>, size: u32) -> Result<u32, AsmReason>
 
 /// An index into a table of that many entries that counts from 0.
 pub fn index_below(token: Token<'_>, size: u32) -> Result<u32, AsmReason>
-    ensures { result ≡ (operands.index_below size).reads [] (token_of token.entry) }
+    ensures { result ≡ (operands.index_operand_below size).reads [] (token_as_text token.entry) }
 {
     match u30(token) {
         Ok(index) if index < size => Ok(index),

@@ -2,9 +2,9 @@
 ghost use Rattle.std.specs.Prelude.{◌≡◌, List, []};
 ghost use Rattle.abc_text_lines.specs.Lineforms as forms;
 ghost use Rattle.abc_text_lines.specs.Lines.{Label};
-ghost use Rattle.abc_text_operands.specs.Answers.{Answers};
+ghost use Rattle.abc_text_operands.specs.Answers.{AnswersOperand};
 ghost use Rattle.abc_text_operands.specs.Joined.{line_result};
-ghost use Rattle.abc_text_tokens.specs.Walks.{token_of, tokens_of};
+ghost use Rattle.abc_text_tokens.specs.Walks.{token_as_text, tokens_of};
 
 use crate::counts::{one_token, two_tokens};
 use crate::error::LineError;
@@ -40,7 +40,8 @@ pub fn uint_line(tokens: &[Token<'_>]) -> Result<u32, AsmReason>
 
 /// A string. `LineError::NoMemory` where memory runs out.
 pub fn string_line(alloc: Global, tokens: &[Token<'_>]) -> Result<Bytes, LineError>
-    ensures { (labels : List Label) → Answers result (line_result forms.string_line labels (tokens_of tokens.now)) }
+    ensures { (labels : List Label)
+        → AnswersOperand result (line_result forms.string_line labels (tokens_of tokens.now)) }
 {
     match one_token(tokens) {
         Some(Token::Quoted(quoted)) => match unquoted(alloc, quoted) {
@@ -54,7 +55,8 @@ pub fn string_line(alloc: Global, tokens: &[Token<'_>]) -> Result<Bytes, LineErr
 
 /// A namespace: its kind and its name.
 pub fn namespace_line(tokens: &[Token<'_>], sizes: &Sizes) -> Result<Namespace, AsmReason>
-    ensures { (labels : List Label) → result ≡ line_result (forms.namespace_line sizes.now) labels (tokens_of tokens.now) }
+    ensures { (labels : List Label)
+        → result ≡ line_result (forms.namespace_line sizes.now) labels (tokens_of tokens.now) }
 {
     let Some((kind, name)) = two_tokens(tokens) else {
         return Err(AsmReason::Operands);
@@ -67,7 +69,7 @@ pub fn namespace_line(tokens: &[Token<'_>], sizes: &Sizes) -> Result<Namespace, 
 
 /// An index into the pool that a kind names, if it names one.
 fn value_index(token: Token<'_>, sizes: &Sizes, kind: ValueKind) -> Result<u32, AsmReason>
-    ensures { result ≡ (forms.value_index sizes.now kind).reads [] (token_of token.entry) }
+    ensures { result ≡ (forms.value_index sizes.now kind).reads [] (token_as_text token.entry) }
 {
     match u30(token) {
         Ok(value) if sizes.has_value(value, kind) => Ok(value),
@@ -78,7 +80,8 @@ fn value_index(token: Token<'_>, sizes: &Sizes, kind: ValueKind) -> Result<u32, 
 
 /// The value of an optional parameter.
 pub fn option_line(tokens: &[Token<'_>], sizes: &Sizes) -> Result<OptionValue, AsmReason>
-    ensures { (labels : List Label) → result ≡ line_result (forms.option_line sizes.now) labels (tokens_of tokens.now) }
+    ensures { (labels : List Label)
+        → result ≡ line_result (forms.option_line sizes.now) labels (tokens_of tokens.now) }
 {
     let Some((kind, value)) = two_tokens(tokens) else {
         return Err(AsmReason::Operands);

@@ -1,10 +1,10 @@
 //! Numbers that may be below 0.
 ghost use Rattle.std.specs.Prelude.{◌≡◌, ◌<◌, ◌≤◌, ◌^◌, ◌-◌, ◌≤ℤ◌, negsuc, pos, [], Ok, Err, IfOk, if◌then◌else◌};
 ghost use Rattle.abc_text_lines.specs.declared.reason.AsmReason.TheVariants as reasons;
-ghost use Rattle.abc_text_lines.specs.Operands.{is_numeral, negative, number_of};
+ghost use Rattle.abc_text_lines.specs.Operands.{is_numeral, negative, number_of_digits};
 ghost use Rattle.abc_text_lines.specs.Operands as operands;
-ghost use Rattle.abc_text_operands.specs.Signed.{ranged};
-ghost use Rattle.abc_text_tokens.specs.Walks.{token_of};
+ghost use Rattle.abc_text_operands.specs.Signed.{in_signed_range};
+ghost use Rattle.abc_text_tokens.specs.Walks.{token_as_text};
 
 use crate::numbers::numeral;
 use abc_text_lines::AsmReason;
@@ -15,7 +15,9 @@ use abc_text_tokens::Token;
 pub fn signed_within(token: Token<'_>, limit: u32) -> Result<i64, AsmReason>
     requires some { 0 < limit }
     requires wide { limit ≤ 2 ^ 31 }
-    ensures { result ≡ (operands.signed_between (negsuc (limit - 1)) (pos (limit - 1))).reads [] (token_of token.entry) }
+    ensures { result
+        ≡ (operands.signed_between (negsuc (limit - 1)) (pos (limit - 1))).reads []
+        (token_as_text token.entry) }
 {
     let Token::Bare(word) = token else {
         return Err(AsmReason::Number);
@@ -35,7 +37,9 @@ pub fn signed_within(token: Token<'_>, limit: u32) -> Result<i64, AsmReason>
 fn plain_below(word: &[u8], limit: u32) -> Result<i64, AsmReason>
     requires some { 0 < limit }
     requires wide { limit ≤ 2 ^ 31 }
-    ensures { result ≡ ranged limit (if is_numeral word.now then Ok (pos (number_of word.now)) else Err reasons.Number) }
+    ensures { result
+        ≡ in_signed_range limit
+        (if is_numeral word.now then Ok (pos (number_of_digits word.now)) else Err reasons.Number) }
 {
     match numeral(word) {
         None => Err(AsmReason::Number),
@@ -54,7 +58,9 @@ fn plain_below(word: &[u8], limit: u32) -> Result<i64, AsmReason>
 fn negative_from(digits: &[u8], limit: u32) -> Result<i64, AsmReason>
     requires some { 0 < limit }
     requires wide { limit ≤ 2 ^ 31 }
-    ensures { result ≡ ranged limit (if is_numeral digits.now then negative (number_of digits.now) else Err reasons.Number) }
+    ensures { result
+        ≡ in_signed_range limit
+        (if is_numeral digits.now then negative (number_of_digits digits.now) else Err reasons.Number) }
 {
     match numeral(digits) {
         None => Err(AsmReason::Number),

@@ -1,10 +1,10 @@
 //! The values of slots.
 ghost use Rattle.std.specs.Prelude.{◌≡◌, List, [], Some};
 ghost use Rattle.abc_text_lines.specs.Lineforms as forms;
-ghost use Rattle.abc_text_operands.specs.Joined.{line_result, mapped};
+ghost use Rattle.abc_text_operands.specs.Joined.{line_result, map_operand};
 ghost use Rattle.abc_text_lines.specs.Lines.{Label};
 ghost use Rattle.abc_file_types.specs.declared.tables.Sizes.{Sizes as TableSizes};
-ghost use Rattle.abc_text_tokens.specs.Walks.{token_of, tokens_of};
+ghost use Rattle.abc_text_tokens.specs.Walks.{token_as_text, tokens_of};
 ghost use Rattle.abc_text_operands.specs.Numbered.{unknown_value};
 
 use crate::counts::one_token;
@@ -18,7 +18,8 @@ use abc_text_tokens::Token;
 
 /// The value of a slot: an index, and a kind unless that is 0.
 pub fn slot_value(fields: &[Token<'_>], sizes: &Sizes) -> Result<Option<OptionValue>, AsmReason>
-    ensures { (labels : List Label) → result ≡ line_result (forms.slot_value sizes.now) labels (tokens_of fields.now) }
+    ensures { (labels : List Label)
+        → result ≡ line_result (forms.slot_value_operand sizes.now) labels (tokens_of fields.now) }
 {
     let Some((index, kinds)) = first_and_rest(fields) else {
         return Err(AsmReason::Operands);
@@ -31,7 +32,10 @@ pub fn slot_value(fields: &[Token<'_>], sizes: &Sizes) -> Result<Option<OptionVa
 
 /// A value of a known index.
 fn known(value: u32, kinds: &[Token<'_>], sizes: &Sizes) -> Result<Option<OptionValue>, AsmReason>
-    ensures { (labels : List Label) → result ≡ mapped (λ o. forms.slot_value_of (value, o)) (line_result (forms.slot_rest sizes.now (Some value)) labels (tokens_of kinds.now)) }
+    ensures { (labels : List Label)
+        → result
+        ≡ map_operand (λ o. forms.slot_value_of_parts (value, o))
+        (line_result (forms.slot_rest sizes.now (Some value)) labels (tokens_of kinds.now)) }
 {
     if value == 0 {
         return no_value(kinds);
@@ -47,7 +51,10 @@ fn known(value: u32, kinds: &[Token<'_>], sizes: &Sizes) -> Result<Option<Option
 
 /// No value, behind which no kind stands.
 fn no_value(kinds: &[Token<'_>]) -> Result<Option<OptionValue>, AsmReason>
-    ensures { (labels : List Label) (v : TableSizes) → result ≡ mapped (λ o. forms.slot_value_of (0, o)) (line_result (forms.slot_rest v (Some 0)) labels (tokens_of kinds.now)) }
+    ensures { (labels : List Label) (v : TableSizes)
+        → result
+        ≡ map_operand (λ o. forms.slot_value_of_parts (0, o))
+        (line_result (forms.slot_rest v (Some 0)) labels (tokens_of kinds.now)) }
 {
     if kinds.is_empty() {
         Ok(None)
@@ -58,7 +65,7 @@ fn no_value(kinds: &[Token<'_>]) -> Result<Option<OptionValue>, AsmReason>
 
 /// The kind of a value, whose pool has the entry of the index.
 fn slot_kind(token: Token<'_>, value: u32, sizes: &Sizes) -> Result<ValueKind, AsmReason>
-    ensures { result ≡ (forms.slot_kind sizes.now value).reads [] (token_of token.entry) }
+    ensures { result ≡ (forms.slot_kind_operand sizes.now value).reads [] (token_as_text token.entry) }
 {
     match value_kind(token) {
         Ok(kind) if sizes.has_value(value, kind) => Ok(kind),

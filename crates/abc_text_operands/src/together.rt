@@ -1,5 +1,5 @@
 ghost use Rattle.std.specs.Prelude.{◌≡◌};
-ghost use Rattle.abc_text_operands.specs.Joined.{earlier as earlier_of, joined};
+ghost use Rattle.abc_text_operands.specs.Joined.{earlier_reason as earlier_of, both_or_reason};
 
 use abc_text_lines::AsmReason;
 
@@ -8,7 +8,7 @@ pub fn two<A: Copy, B: Copy>(
     first: Result<A, AsmReason>,
     second: Result<B, AsmReason>,
 ) -> Result<(A, B), AsmReason>
-    ensures { result ≡ joined first second }
+    ensures { result ≡ both_or_reason first second }
 {
     match first {
         Ok(a) => match second {

@@ -1,12 +1,12 @@
 //! The lines of traits.
 ghost use Rattle.std.specs.Prelude.{◌≡◌, List, [], Some, true};
 ghost use Rattle.abc_text_lines.specs.Lineforms as forms;
-ghost use Rattle.abc_text_operands.specs.Joined.{line_result, mapped};
+ghost use Rattle.abc_text_operands.specs.Joined.{line_result, map_operand};
 ghost use Rattle.abc_text_lines.specs.Lines.{Label};
 ghost use Rattle.abc_text_lines.specs.Operands as operands;
-ghost use Rattle.abc_text_tokens.specs.Walks.{token_of, tokens_of};
+ghost use Rattle.abc_text_tokens.specs.Walks.{token_as_text, tokens_of};
 ghost use Rattle.abc_text_operands.specs.Traited.{as_trait};
-ghost use Rattle.abc_text_operands.specs.Numbered.{body_of, is_numbered, pair_result, size_for, slot_kind_of};
+ghost use Rattle.abc_text_operands.specs.Numbered.{numbered_trait, is_numbered, pair_result, size_of_table, slot_kind_of};
 
 use crate::counts::two_tokens;
 use crate::fronts::first_and_rest;
@@ -28,7 +28,9 @@ pub struct TraitHead {
 
 /// A trait: its kind, its attributes, its name, and what the kind asks for.
 pub fn trait_line(tokens: &[Token<'_>], sizes: &Sizes) -> Result<TraitHead, AsmReason>
-    ensures { (labels : List Label) → mapped as_trait result ≡ line_result (forms.trait_line sizes.now) labels (tokens_of tokens.now) }
+    ensures { (labels : List Label)
+        → map_operand as_trait result
+        ≡ line_result (forms.trait_line sizes.now) labels (tokens_of tokens.now) }
 {
     let Some((kind, fields)) = first_and_rest(tokens) else {
         return Err(AsmReason::Operands);
@@ -41,7 +43,9 @@ pub fn trait_line(tokens: &[Token<'_>], sizes: &Sizes) -> Result<TraitHead, AsmR
 
 /// The attributes, the name, and what the kind asks for.
 fn named(kind: TraitKind, fields: &[Token<'_>], sizes: &Sizes) -> Result<TraitHead, AsmReason>
-    ensures { (labels : List Label) → mapped as_trait result ≡ line_result (forms.trait_rest sizes.now (Some kind)) labels (tokens_of fields.now) }
+    ensures { (labels : List Label)
+        → map_operand as_trait result
+        ≡ line_result (forms.trait_rest sizes.now (Some kind)) labels (tokens_of fields.now) }
 {
     let Some((attrs, others)) = first_and_rest(fields) else {
         return Err(AsmReason::Operands);
@@ -59,7 +63,7 @@ fn named(kind: TraitKind, fields: &[Token<'_>], sizes: &Sizes) -> Result<TraitHe
 
 /// A number below 16.
 fn small(token: Token<'_>) -> Result<u8, AsmReason>
-    ensures { result ≡ (operands.number_below 16).reads [] (token_of token.entry) }
+    ensures { result ≡ (operands.number_below 16).reads [] (token_as_text token.entry) }
 {
     match number_below(token, 16) {
         Ok(number) => Ok(number as u8),
@@ -69,7 +73,8 @@ fn small(token: Token<'_>) -> Result<u8, AsmReason>
 
 /// What a trait declares.
 fn body(kind: TraitKind, fields: &[Token<'_>], sizes: &Sizes) -> Result<TraitBody, AsmReason>
-    ensures { (labels : List Label) → result ≡ line_result (forms.trait_fields sizes.now kind) labels (tokens_of fields.now) }
+    ensures { (labels : List Label)
+        → result ≡ line_result (forms.trait_operands sizes.now kind) labels (tokens_of fields.now) }
 {
     match kind {
         TraitKind::Slot => slot(fields, sizes, false),
@@ -84,7 +89,10 @@ fn body(kind: TraitKind, fields: &[Token<'_>], sizes: &Sizes) -> Result<TraitBod
 
 /// A slot or a constant: its position, its type, and its value.
 fn slot(fields: &[Token<'_>], sizes: &Sizes, constant: bool) -> Result<TraitBody, AsmReason>
-    ensures { (labels : List Label) → result ≡ line_result (forms.trait_fields sizes.now (slot_kind_of constant)) labels (tokens_of fields.now) }
+    ensures { (labels : List Label)
+        → result
+        ≡ line_result (forms.trait_operands sizes.now (slot_kind_of constant)) labels
+        (tokens_of fields.now) }
 {
     let Some((id, others)) = first_and_rest(fields) else {
         return Err(AsmReason::Operands);
@@ -109,7 +117,8 @@ fn slot(fields: &[Token<'_>], sizes: &Sizes, constant: bool) -> Result<TraitBody
 /// A trait of a number and an index.
 fn numbered(kind: TraitKind, fields: &[Token<'_>], sizes: &Sizes) -> Result<TraitBody, AsmReason>
     requires { is_numbered kind ≡ true }
-    ensures { (labels : List Label) → result ≡ line_result (forms.trait_fields sizes.now kind) labels (tokens_of fields.now) }
+    ensures { (labels : List Label)
+        → result ≡ line_result (forms.trait_operands sizes.now kind) labels (tokens_of fields.now) }
 {
     match pair(fields, size_of(kind, sizes)) {
         Ok((number, index)) => Ok(made(kind, number, index)),
@@ -129,7 +138,7 @@ fn pair(fields: &[Token<'_>], size: u32) -> Result<(u32, u32), AsmReason>
 
 /// How many entries the table has that a trait's index is of.
 fn size_of(kind: TraitKind, sizes: &Sizes) -> u32
-    ensures { result ≡ size_for sizes.now kind }
+    ensures { result ≡ size_of_table sizes.now kind }
 {
     match kind {
         TraitKind::Class => sizes.classes,
@@ -138,7 +147,7 @@ fn size_of(kind: TraitKind, sizes: &Sizes) -> u32
 }
 
 fn made(kind: TraitKind, number: u32, index: u32) -> TraitBody
-    ensures { result ≡ body_of kind number index }
+    ensures { result ≡ numbered_trait kind number index }
 {
     match kind {
         TraitKind::Getter => TraitBody::Getter {

@@ -15,10 +15,10 @@ use Rattle.abc_file_types.specs.declared.tables.Sizes.{Sizes}
 use Rattle.abc_text_lines.specs.Lines.{Label, Row}
 use Rattle.abc_text_lines.specs.Operands.{none, none_left, reasons_of}
 use Rattle.abc_text_lines.specs.Rows.{Fault, unless}
-use Rattle.abc_text_lines.specs.Wordlines.{in_word, twice}
+use Rattle.abc_text_lines.specs.Wordlines.{in_word, repeat_reason}
 use Rattle.abc_text_lines.specs.File.{faults, instructions, others, own}
-use Rattle.abc_text_lines.specs.Lineforms.{instruction_line, opcode_of}
-use Rattle.abc_text_operands.specs.Answers.{Answers}
+use Rattle.abc_text_lines.specs.Lineforms.{instruction_operands, opcode_of}
+use Rattle.abc_text_operands.specs.Answers.{AnswersOperand}
 use Rattle.abc_text_operands.specs.Joined.{line_result}
 use Rattle.abc_text_operands.specs.declared.error.LineError.{LineError}
 use Rattle.abc_text_tokens.specs.Walks.{tokens_of}
@@ -26,7 +26,7 @@ use Rattle.abc_text_tokens.specs.declared.token.Token as code
 use Rattle.abc_text_reader.specs.declared.error.AsmError.TheVariants as errors
 use Rattle.abc_text_reader.specs.declared.reader.Reader.{Reader}
 use Rattle.abc_text_reader.specs.declared.reader.Taken.{Taken}
-use Rattle.abc_text_reader.specs.Parts.{Gives, ReadsItem, made_at}
+use Rattle.abc_text_reader.specs.Parts.{GivesPart, ReadsItem, made_at}
 use Rattle.abc_text_reader.specs.Reading.{labels_now, may_repeat, row_of, rows_left, word_next}
 use Rattle.abc_text_reader.proofs.Lone.{IsHeaded, first_row, given_by, no_extra, once_faults, rest_rows, unless_broken, whole_faults}
 use Rattle.abc_text_reader.specs.Coded.{instruction_read, label_read}
@@ -79,22 +79,22 @@ module _ (old new : Reader) (taken : Taken) (opens : rows_left old ≡ row_of ta
 
   -- ---- an instruction
 
-  instruction_faults : (op : ℕ) → taken.word ≡ words.Instruction op → (may_repeat taken.word ≡ false → taken.repeated ≡ false) → faults v i head left ≡ reasons_of (instruction_line op) labels tokens
+  instruction_faults : (op : ℕ) → taken.word ≡ words.Instruction op → (may_repeat taken.word ≡ false → taken.repeated ≡ false) → faults v i head left ≡ reasons_of (instruction_operands op) labels tokens
   instruction_faults op word once =
       no_extra v i head left (words.Instruction op) word refl
       ∙ once_faults v i head left (words.Instruction op) word refl (once (ap may_repeat word))
-      ∙ append-nil (reasons_of (instruction_line op) labels tokens)
+      ∙ append-nil (reasons_of (instruction_operands op) labels tokens)
 
-  pub instruction_reads : (op : ℕ) (r : Result Instr LineError) → taken.word ≡ words.Instruction op → (may_repeat taken.word ≡ false → taken.repeated ≡ false) → Answers r (line_result (instruction_line op) labels tokens) → ReadsItem instruction_read old new (made_at taken.number r)
+  pub instruction_reads : (op : ℕ) (r : Result Instr LineError) → taken.word ≡ words.Instruction op → (may_repeat taken.word ≡ false → taken.repeated ≡ false) → AnswersOperand r (line_result (instruction_operands op) labels tokens) → ReadsItem instruction_read old new (made_at taken.number r)
   instruction_reads op r word once says n row rows le e =
-      let o = least (reasons_of (instruction_line op) labels tokens) in
-      let x = (instruction_line op).value labels tokens in
+      let o = least (reasons_of (instruction_operands op) labels tokens) in
+      let x = (instruction_operands op).value labels tokens in
       let reads : instruction_read v i n row rows ≡ unless o taken.number (Ok (x, left)) =
       ap (λ (a : Row). instruction_read v i n a rows) (first_row row head rows left (sym e ∙ opens))
       ∙ ap (λ (l : List Row). instruction_read v i n head l) (rest_rows row head rows left (sym e ∙ opens))
       ∙ ap (λ (l : List AsmReason). unless (least l) taken.number (Ok ((instructions v i).value head, left))) (instruction_faults op word once)
-      ∙ ap (λ (w : Word). unless o taken.number (Ok ((in_word opcode_of instruction_line (instrs.Plain 0) w).value labels tokens, left))) word in
-      subst (λ (p : Result (Instr × List Row) Fault). Gives left (made_at taken.number r) p) (sym reads) (given_by r o x taken.number left says)
+      ∙ ap (λ (w : Word). unless o taken.number (Ok ((in_word opcode_of instruction_operands (instrs.Plain 0) w).value labels tokens, left))) word in
+      subst (λ (p : Result (Instr × List Row) Fault). GivesPart left (made_at taken.number r) p) (sym reads) (given_by r o x taken.number left says)
 
   -- ---- a label line
 
@@ -105,7 +105,7 @@ module _ (old new : Reader) (taken : Taken) (opens : rows_left old ≡ row_of ta
   label_faults word =
       no_extra v i head left words.Label word refl
       ∙ whole_faults v i head left refl
-      ∙ ap (λ (w : Word). own v i w labels tokens ++ (others v i head left w ++ cond taken.repeated (twice w ∷ []) [])) word
+      ∙ ap (λ (w : Word). own v i w labels tokens ++ (others v i head left w ++ cond taken.repeated (repeat_reason w ∷ []) [])) word
 
   abbrev label_by : List AsmReason → Result (Unit {0} × List Row) Fault
   label_by l = unless (least l) taken.number (Ok (tt, left))

@@ -12,7 +12,7 @@ use Rattle.abc_text_reader.specs.declared.error.AsmError.{AsmError}
 use Rattle.abc_text_reader.specs.declared.error.AsmError.TheVariants as errors
 use Rattle.abc_text_reader.specs.declared.reader.Reader.{Reader}
 use Rattle.abc_text_reader.specs.Reading.{Goes, IsReader, rows_left, word_next}
-use Rattle.abc_text_reader.specs.Parts.{ComesNext, Going, Item, ReadsItem, ReadsPart, all_items, items_read, with_front}
+use Rattle.abc_text_reader.specs.Parts.{ComesNext, Going, BlockItem, ReadsItem, ReadsTextPart, all_items, items_read, with_front}
 
 abbrev Read : Type 0 → Type 0
 Read A = Result (List A × List Row) Fault
@@ -78,7 +78,7 @@ place_differs l w word f differs =
 less : (n a b : ℕ) → a + suc b ≤ n → n - a ≡ suc (n - (a + 1))
 less n a b le = omega arith
 
-module _ {A : Type 0} (word : Word) (item : Item A) (old : Reader) where
+module _ {A : Type 0} (word : Word) (item : BlockItem A) (old : Reader) where
   abbrev one : ℕ → Row → List Row → Result (A × List Row) Fault
   one n = item old.sizes old.instances n
 
@@ -97,7 +97,7 @@ module _ {A : Type 0} (word : Word) (item : Item A) (old : Reader) where
 
   module _ (xs : List A) (mid : Reader) (going : Going word item xs old mid) where
     -- at the end of the lines
-    pub at_last : rows_left mid ≡ [] → ReadsPart (all_items word item) old mid (Ok xs)
+    pub at_last : rows_left mid ≡ [] → ReadsTextPart (all_items word item) old mid (Ok xs)
     at_last e n le =
         sym (going.reads n le)
         ∙ ap (λ (l : List Row). with_front xs (items_read word (one n) (n - length xs) l)) e
@@ -106,7 +106,7 @@ module _ {A : Type 0} (word : Word) (item : Item A) (old : Reader) where
         ∙ ap (λ (l : List Row). at_end xs l) (sym e)
 
     -- before a line of another word
-    pub at_other : (row : Row) (rows : List Row) → rows_left mid ≡ row ∷ rows → nat_eq (place_of row.word) (place_of word) ≡ false → ReadsPart (all_items word item) old mid (Ok xs)
+    pub at_other : (row : Row) (rows : List Row) → rows_left mid ≡ row ∷ rows → nat_eq (place_of row.word) (place_of word) ≡ false → ReadsTextPart (all_items word item) old mid (Ok xs)
     at_other row rows e other n le =
         sym (going.reads n le)
         ∙ ap (λ (l : List Row). with_front xs (items_read word (one n) (n - length xs) l)) e
@@ -128,7 +128,7 @@ module _ {A : Type 0} (word : Word) (item : Item A) (old : Reader) where
         ∙ going.reads n le
 
     -- the next item has a fault
-    pub fails : (row : Row) (rows : List Row) (new : Reader) (e : AsmError) → rows_left mid ≡ row ∷ rows → nat_eq (place_of row.word) (place_of word) ≡ true → ReadsItem item mid new (Err e) → ReadsPart (all_items word item) old new (Err e)
+    pub fails : (row : Row) (rows : List Row) (new : Reader) (e : AsmError) → rows_left mid ≡ row ∷ rows → nat_eq (place_of row.word) (place_of word) ≡ true → ReadsItem item mid new (Err e) → ReadsTextPart (all_items word item) old new (Err e)
     fails row rows new (errors.Refused line reason) e same reads n le =
         let few : length (rows_left mid) ≤ n = let t = going.taken in omega arith in
         let here : one n row rows ≡ Err (fault line reason) = subst (λ (i : ℕ). item old.sizes i n row rows ≡ Err (fault line reason)) going.goes.instances (subst (λ (v : Sizes). item v mid.instances n row rows ≡ Err (fault line reason)) going.goes.sizes (reads n row rows few e)) in
@@ -152,13 +152,13 @@ module _ {A : Type 0} (word : Word) (item : Item A) (old : Reader) where
         }
 
     -- the same, by what the code knows of the next line
-    pub finishes : word_next (rows_left mid) ≡ None → ReadsPart (all_items word item) old mid (Ok xs)
+    pub finishes : word_next (rows_left mid) ≡ None → ReadsTextPart (all_items word item) old mid (Ok xs)
     finishes e = at_last (no_rows (rows_left mid) e)
 
-    pub stops : (w : Word) → word_next (rows_left mid) ≡ Some w → ¬ (place_of w ≡ place_of word) → ReadsPart (all_items word item) old mid (Ok xs)
+    pub stops : (w : Word) → word_next (rows_left mid) ≡ Some w → ¬ (place_of w ≡ place_of word) → ReadsTextPart (all_items word item) old mid (Ok xs)
     stops w e differs = let f = first_row_of (rows_left mid) w e in at_other f.row f.rows f.is (place_differs (rows_left mid) w word f differs)
 
-    pub item_fails : (w : Word) (new : Reader) (d : AsmError) → word_next (rows_left mid) ≡ Some w → place_of w ≡ place_of word → ReadsItem item mid new (Err d) → ReadsPart (all_items word item) old new (Err d)
+    pub item_fails : (w : Word) (new : Reader) (d : AsmError) → word_next (rows_left mid) ≡ Some w → place_of w ≡ place_of word → ReadsItem item mid new (Err d) → ReadsTextPart (all_items word item) old new (Err d)
     item_fails w new d e at reads = let f = first_row_of (rows_left mid) w e in fails f.row f.rows new d f.is (place_same (rows_left mid) w word f at) reads
 
     pub goes_further : (w : Word) (new : Reader) (x : A) → word_next (rows_left mid) ≡ Some w → place_of w ≡ place_of word → Goes mid new → length (rows_left new) < length (rows_left mid) → ReadsItem item mid new (Ok x) → Going word item (xs ++ x ∷ []) old new

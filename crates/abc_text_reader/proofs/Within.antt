@@ -6,7 +6,7 @@ use Rattle.abc_text_lines.specs.declared.reason.AsmReason.{AsmReason}
 use Rattle.abc_text_lines.specs.Reasons.{least}
 use Rattle.abc_text_lines.specs.Tokens.{Token}
 use Rattle.abc_text_lines.proofs.Bools.{and_true}
-use Rattle.abc_text_lines.specs.Firsts.{told}
+use Rattle.abc_text_lines.specs.Firsts.{value_or_reason}
 use Rattle.abc_text_lines.specs.Operands.{reasons_of}
 use Rattle.abc_text_lines.proofs.Wordlines.{reasons_nil}
 use Rattle.abc_text_lines.specs.Lineforms.{int_line}
@@ -18,7 +18,7 @@ unfolding least
 nil_of [] e = refl
 nil_of (r ∷ rs) e = absurd cc
 
-told_none : {A : Type 0} (o : Option AsmReason) (x y : A) → Ok y ≡ told o x → (o ≡ None) × (x ≡ y)
+told_none : {A : Type 0} (o : Option AsmReason) (x y : A) → Ok y ≡ value_or_reason o x → (o ≡ None) × (x ≡ y)
 told_none None x y e = (refl, cc)
 told_none (Some r) x y e = absurd cc
 

@@ -9,26 +9,26 @@ use Rattle.abc_text_lines.specs.Rows.{Fault, code_reads, unless, ◌>>=◌}
 use Rattle.abc_text_lines.specs.File.{faults, instructions}
 use Rattle.abc_text_reader.specs.declared.error.AsmError.{AsmError}
 use Rattle.abc_text_reader.specs.declared.reader.Reader.{Reader}
-use Rattle.abc_text_reader.specs.Parts.{Item, Part}
+use Rattle.abc_text_reader.specs.Parts.{BlockItem, TextPart}
 use Rattle.abc_text_reader.specs.Reading.{Goes, rows_left}
 use Rattle.abc_text_reader.specs.declared.gathering.Gathering.{Gathering}
 
 -- instructions, and label lines among them
-abbrev pub code_read : Part (List Instr)
+abbrev pub code_read : TextPart (List Instr)
 code_read v instances n rows = code_reads (faults v instances) (instructions v instances) rows
 
 -- the line of an instruction
-abbrev pub instruction_read : Item Instr
+abbrev pub instruction_read : BlockItem Instr
 instruction_read v instances n row rows = unless (least (faults v instances row rows)) row.number (Ok ((instructions v instances).value row, rows))
 
 -- a label line
-abbrev pub label_read : Item (Unit {0})
+abbrev pub label_read : BlockItem (Unit {0})
 label_read v instances n row rows = unless (least (faults v instances row rows)) row.number (Ok (tt, rows))
 
 -- the result of a reader that leaves what it read in a list
-abbrev pub gathered : Result (Unit {0}) AsmError → List Instr → Result (List Instr) AsmError
-gathered (Ok t) xs = Ok xs
-gathered (Err e) xs = Err e
+abbrev pub list_or_error : Result (Unit {0}) AsmError → List Instr → Result (List Instr) AsmError
+list_or_error (Ok t) xs = Ok xs
+list_or_error (Err e) xs = Err e
 
 -- the length is that of the instructions, and no more than 2^64 - 1
 abbrev pub IsSummed : Gathering → Type 0

@@ -1,8 +1,8 @@
 //! The methods that have a body.
 ghost use Rattle.std.specs.Prelude.{◌≡◌, ◌<◌, ◌≤◌, ◌∷◌, ◌++◌, [], IfOk, IfSome, OnOk};
-ghost use Rattle.abc_text_lines.specs.Texts.{is_among};
-ghost use Rattle.abc_text_lines.specs.Operands.{number_of};
-ghost use Rattle.abc_text_reader.specs.Names.{Same, names_in, texts};
+ghost use Rattle.abc_text_lines.specs.Texts.{is_text_among};
+ghost use Rattle.abc_text_lines.specs.Operands.{number_of_digits};
+ghost use Rattle.abc_text_reader.specs.Names.{Same, names_in, texts_of_names};
 
 use crate::noting::add;
 use abc_base::NoMemory;
@@ -28,18 +28,19 @@ pub(crate) struct Bodied<'a> {
 
 impl<'a> Model for Bodied<'a> {
     ghost use Rattle.std.specs.Prelude.{◌++◌, List, ℕ};
-    ghost use Rattle.abc_text_reader.specs.Names.{AreBelow, names_in, texts};
+    ghost use Rattle.abc_text_reader.specs.Names.{AreBelow, names_in, texts_of_names};
 
     ghost Value = { List (List ℕ) };
 
-    ghost view = { λ b. texts b.rising.items ++ names_in b.others };
+    ghost view = { λ b. texts_of_names b.rising.items ++ names_in b.others };
 
-    ghost invariant = { λ b. AreBelow b.bound (texts b.rising.items) };
+    ghost invariant = { λ b. AreBelow b.bound (texts_of_names b.rising.items) };
 }
 
 /// The bound after a numeral whose number is not below one.
 fn bound_after(name: &[u8], bound: u64) -> Option<u64>
-    ensures { IfSome result (λ after. (bound ≤ number_of name.now) × (number_of name.now < after)) }
+    ensures { IfSome result
+        (λ after. (bound ≤ number_of_digits name.now) × (number_of_digits name.now < after)) }
 {
     let number = numeral(name)?;
     if number < bound || number >= MOST {
@@ -50,7 +51,7 @@ fn bound_after(name: &[u8], bound: u64) -> Option<u64>
 
 /// Adds names to others. `NoMemory` where memory runs out.
 fn add_all<'a>(seen: &mut IndexMap<&'a [u8], bool>, names: &[&'a [u8]]) -> Result<(), NoMemory>
-    ensures { OnOk result (Same (names_in seen.new) (texts names.now ++ names_in seen.old)) }
+    ensures { OnOk result (Same (names_in seen.new) (texts_of_names names.now ++ names_in seen.old)) }
 {
     for name in names {
         add(seen, *name)?;
@@ -72,7 +73,7 @@ impl<'a> Bodied<'a> {
 
     /// Adds a method, and tells whether it was among them. `NoMemory` where memory runs out.
     pub(crate) fn note(&mut self, name: &'a [u8]) -> Result<bool, NoMemory>
-        ensures was { IfOk result (λ known. known ≡ is_among name.now self.old) }
+        ensures was { IfOk result (λ known. known ≡ is_text_among name.now self.old) }
         ensures is { IfOk result (λ known. Same self.new (name.now ∷ self.old)) }
     {
         if !self.others.is_empty() {
@@ -92,7 +93,7 @@ impl<'a> Bodied<'a> {
     #[cold]
     #[tactic(auto, using(crate::proofs::Rising::none_below))]
     fn note_late(&mut self, name: &'a [u8]) -> Result<bool, NoMemory>
-        ensures was { IfOk result (λ known. known ≡ is_among name.now self.old) }
+        ensures was { IfOk result (λ known. known ≡ is_text_among name.now self.old) }
         ensures is { IfOk result (λ known. Same self.new (name.now ∷ self.old)) }
     {
         add_all(&mut self.others, self.rising.as_slice())?;

@@ -2,9 +2,9 @@
 ghost use Rattle.std.specs.Prelude.{◌≡◌, ◌<◌, ◌-◌, ◌^◌, ℕ, [], IfOk, length, min, Some};
 ghost use Rattle.abc_file_types.specs.CodeBytes.{code_len};
 ghost use Rattle.abc_text_lines.specs.declared.word.Word.TheVariants as words;
-ghost use Rattle.abc_text_reader.specs.Parts.{ReadsItem, ReadsPart};
+ghost use Rattle.abc_text_reader.specs.Parts.{ReadsItem, ReadsTextPart};
 ghost use Rattle.abc_text_reader.specs.Reading.{Goes, IsReader, rows_left, word_next};
-ghost use Rattle.abc_text_reader.specs.Coded.{IsSummed, code_read, gathered, instruction_read, label_read};
+ghost use Rattle.abc_text_reader.specs.Coded.{IsSummed, code_read, list_or_error, instruction_read, label_read};
 
 use crate::error::{AsmError, refused};
 use crate::gathering::Gathering;
@@ -21,7 +21,8 @@ fn gather_code(reader: &mut Reader<'_>, gathering: &mut Gathering) -> Result<(),
     requires none { gathering.old.instrs ≡ [] }
     requires summed { IsSummed gathering.old }
     ensures goes { IfOk result (λ x. Goes reader.old reader.new) }
-    ensures reads { ReadsPart code_read reader.old reader.new (gathered result gathering.new.instrs) }
+    ensures reads { ReadsTextPart code_read reader.old reader.new
+        (list_or_error result gathering.new.instrs) }
     ensures summed { IfOk result (λ x. IsSummed gathering.new) }
 {
     while let Some(word) = reader.word() {
@@ -45,7 +46,7 @@ pub fn read_code(
 ) -> Result<Table<Instr>, AsmError>
     requires { IsReader reader.old }
     ensures goes { IfOk result (λ xs. Goes reader.old reader.new) }
-    ensures reads { ReadsPart code_read reader.old reader.new result }
+    ensures reads { ReadsTextPart code_read reader.old reader.new result }
     ensures len { IfOk result (λ code. gathering.new.len ≡ min (code_len code) (2 ^ 64 - 1)) }
 {
     gathering.clear();

@@ -37,7 +37,12 @@ impl Flat for Params {
         told(param_line(tokens, sizes))
     }
 
-    ghost plain = { record { no_others = λ v instances row after. refl; no_extra = λ v instances row after. refl; once = refl; apart = refl } };
+    ghost plain = { record {
+      no_others = λ v instances row after. refl;
+      no_extra = λ v instances row after. refl;
+      once = refl;
+      apart = refl;
+    } };
 }
 
 /// The optional values of a method.
@@ -63,7 +68,12 @@ impl Flat for Options {
         told(option_line(tokens, sizes))
     }
 
-    ghost plain = { record { no_others = λ v instances row after. refl; no_extra = λ v instances row after. refl; once = refl; apart = refl } };
+    ghost plain = { record {
+      no_others = λ v instances row after. refl;
+      no_extra = λ v instances row after. refl;
+      once = refl;
+      apart = refl;
+    } };
 }
 
 /// The names of a method's parameters.
@@ -89,7 +99,12 @@ impl Flat for ParamNames {
         told(number_line(tokens))
     }
 
-    ghost plain = { record { no_others = λ v instances row after. refl; no_extra = λ v instances row after. refl; once = refl; apart = refl } };
+    ghost plain = { record {
+      no_others = λ v instances row after. refl;
+      no_extra = λ v instances row after. refl;
+      once = refl;
+      apart = refl;
+    } };
 }
 
 /// The entries of metadata.
@@ -115,7 +130,12 @@ impl Flat for Entries {
         told(entry_line(tokens, sizes))
     }
 
-    ghost plain = { record { no_others = λ v instances row after. refl; no_extra = λ v instances row after. refl; once = refl; apart = refl } };
+    ghost plain = { record {
+      no_others = λ v instances row after. refl;
+      no_extra = λ v instances row after. refl;
+      once = refl;
+      apart = refl;
+    } };
 }
 
 /// The protected namespace of an instance.
@@ -141,7 +161,12 @@ impl Flat for Protected {
         told(protected_line(tokens, sizes))
     }
 
-    ghost plain = { record { no_others = λ v instances row after. refl; no_extra = λ v instances row after. refl; once = refl; apart = refl } };
+    ghost plain = { record {
+      no_others = λ v instances row after. refl;
+      no_extra = λ v instances row after. refl;
+      once = refl;
+      apart = refl;
+    } };
 }
 
 /// The interfaces of an instance.
@@ -167,7 +192,12 @@ impl Flat for Implements {
         told(implements_line(tokens, sizes))
     }
 
-    ghost plain = { record { no_others = λ v instances row after. refl; no_extra = λ v instances row after. refl; once = refl; apart = refl } };
+    ghost plain = { record {
+      no_others = λ v instances row after. refl;
+      no_extra = λ v instances row after. refl;
+      once = refl;
+      apart = refl;
+    } };
 }
 
 /// The metadata of a trait.
@@ -193,7 +223,12 @@ impl Flat for TraitMetadata {
         told(trait_metadata_line(tokens, sizes))
     }
 
-    ghost plain = { record { no_others = λ v instances row after. refl; no_extra = λ v instances row after. refl; once = refl; apart = refl } };
+    ghost plain = { record {
+      no_others = λ v instances row after. refl;
+      no_extra = λ v instances row after. refl;
+      once = refl;
+      apart = refl;
+    } };
 }
 
 /// The handlers of a body.
@@ -219,5 +254,10 @@ impl Flat for Handlers {
         told(catch_line(tokens, sizes, places))
     }
 
-    ghost plain = { record { no_others = λ v instances row after. refl; no_extra = λ v instances row after. refl; once = refl; apart = refl } };
+    ghost plain = { record {
+      no_others = λ v instances row after. refl;
+      no_extra = λ v instances row after. refl;
+      once = refl;
+      apart = refl;
+    } };
 }

@@ -1,8 +1,8 @@
 //! Names that were seen.
 ghost use Rattle.std.specs.Prelude.{◌≡◌, ◌∷◌, [], IfOk, MatchOption, take, true};
-ghost use Rattle.abc_text_lines.specs.Texts.{is_among, method_in};
+ghost use Rattle.abc_text_lines.specs.Texts.{is_text_among, method_named};
 ghost use Rattle.abc_text_tokens.specs.Walks.{tokens_of};
-ghost use Rattle.abc_text_reader.specs.Names.{IsFirstAt, Same, names_in, stood};
+ghost use Rattle.abc_text_reader.specs.Names.{IsFirstAt, Same, names_in, names_in_body};
 
 use abc_base::NoMemory;
 use abc_text_tokens::Token;
@@ -11,7 +11,7 @@ use std::mem;
 
 /// Adds a name to some, and tells whether it was among them. `NoMemory` where memory runs out.
 pub fn add<'a>(seen: &mut IndexMap<&'a [u8], bool>, name: &'a [u8]) -> Result<bool, NoMemory>
-    ensures was { IfOk result (λ known. known ≡ is_among name.now (names_in seen.old)) }
+    ensures was { IfOk result (λ known. known ≡ is_text_among name.now (names_in seen.old)) }
     ensures is { IfOk result (λ known. Same (names_in seen.new) (name.now ∷ names_in seen.old)) }
 {
     let old = seen.insert(name, true)?;
@@ -33,7 +33,7 @@ fn stands_at(names: &IndexMap<&[u8], u32>, place: usize, name: &[u8]) -> bool
 
 /// Whether a name stands before a place among some.
 fn stands_before(names: &IndexMap<&[u8], u32>, place: usize, name: &[u8]) -> bool
-    ensures { result ≡ is_among name.now (take place (names_in names.now)) }
+    ensures { result ≡ is_text_among name.now (take place (names_in names.now)) }
 {
     match names.get_index_of(name) {
         Some(found) => found < place,
@@ -50,8 +50,10 @@ fn add_late<'a>(
     others: &mut IndexMap<&'a [u8], bool>,
     name: &'a [u8],
 ) -> Result<bool, NoMemory>
-    ensures was { IfOk result (λ known. known ≡ is_among name.now (stood labels.now met others.old)) }
-    ensures is { IfOk result (λ known. Same (stood labels.now met others.new) (name.now ∷ stood labels.now met others.old)) }
+    ensures was { IfOk result
+        (λ known. known ≡ is_text_among name.now (names_in_body labels.now met others.old)) }
+    ensures is { IfOk result (λ known. Same (names_in_body labels.now met others.new)
+        (name.now ∷ names_in_body labels.now met others.old)) }
 {
     let known = add(others, name)?;
     if known {
@@ -68,8 +70,10 @@ pub fn note_label<'a>(
     others: &mut IndexMap<&'a [u8], bool>,
     name: &'a [u8],
 ) -> Result<bool, NoMemory>
-    ensures was { IfOk result (λ known. known ≡ is_among name.now (stood labels.now met.old others.old)) }
-    ensures is { IfOk result (λ known. Same (stood labels.now met.new others.new) (name.now ∷ stood labels.now met.old others.old)) }
+    ensures was { IfOk result
+        (λ known. known ≡ is_text_among name.now (names_in_body labels.now met.old others.old)) }
+    ensures is { IfOk result (λ known. Same (names_in_body labels.now met.new others.new)
+        (name.now ∷ names_in_body labels.now met.old others.old)) }
 {
     if !others.is_empty() {
         return add_late(labels, *met, others, name);
@@ -83,7 +87,8 @@ pub fn note_label<'a>(
 
 /// The method that a body's line names, by its numeral.
 pub fn method_of<'a>(operands: &[Token<'a>]) -> Option<&'a [u8]>
-    ensures { MatchOption result (method_in (tokens_of operands.now) ≡ []) (λ m. method_in (tokens_of operands.now) ≡ m.now ∷ []) }
+    ensures { MatchOption result (method_named (tokens_of operands.now) ≡ [])
+        (λ m. method_named (tokens_of operands.now) ≡ m.now ∷ []) }
 {
     if operands.is_empty() {
         return None;

@@ -41,7 +41,12 @@ impl Flat for Ints {
         }
     }
 
-    ghost plain = { record { no_others = λ v instances row after. refl; no_extra = λ v instances row after. refl; once = refl; apart = refl } };
+    ghost plain = { record {
+      no_others = λ v instances row after. refl;
+      no_extra = λ v instances row after. refl;
+      once = refl;
+      apart = refl;
+    } };
 }
 
 /// A number of 32 bits.
@@ -76,7 +81,12 @@ impl Flat for UInts {
         told(uint_line(tokens))
     }
 
-    ghost plain = { record { no_others = λ v instances row after. refl; no_extra = λ v instances row after. refl; once = refl; apart = refl } };
+    ghost plain = { record {
+      no_others = λ v instances row after. refl;
+      no_extra = λ v instances row after. refl;
+      once = refl;
+      apart = refl;
+    } };
 }
 
 /// The doubles.
@@ -102,7 +112,12 @@ impl Flat for Doubles {
         told(double_line(tokens))
     }
 
-    ghost plain = { record { no_others = λ v instances row after. refl; no_extra = λ v instances row after. refl; once = refl; apart = refl } };
+    ghost plain = { record {
+      no_others = λ v instances row after. refl;
+      no_extra = λ v instances row after. refl;
+      once = refl;
+      apart = refl;
+    } };
 }
 
 /// The strings.
@@ -128,7 +143,12 @@ impl Flat for Strings {
         string_line(alloc, tokens)
     }
 
-    ghost plain = { record { no_others = λ v instances row after. refl; no_extra = λ v instances row after. refl; once = refl; apart = refl } };
+    ghost plain = { record {
+      no_others = λ v instances row after. refl;
+      no_extra = λ v instances row after. refl;
+      once = refl;
+      apart = refl;
+    } };
 }
 
 /// The namespaces.
@@ -154,7 +174,12 @@ impl Flat for Namespaces {
         told(namespace_line(tokens, sizes))
     }
 
-    ghost plain = { record { no_others = λ v instances row after. refl; no_extra = λ v instances row after. refl; once = refl; apart = refl } };
+    ghost plain = { record {
+      no_others = λ v instances row after. refl;
+      no_extra = λ v instances row after. refl;
+      once = refl;
+      apart = refl;
+    } };
 }
 
 /// The sets of namespaces.
@@ -180,7 +205,12 @@ impl Flat for Sets {
         set_line(alloc, tokens, sizes)
     }
 
-    ghost plain = { record { no_others = λ v instances row after. refl; no_extra = λ v instances row after. refl; once = refl; apart = refl } };
+    ghost plain = { record {
+      no_others = λ v instances row after. refl;
+      no_extra = λ v instances row after. refl;
+      once = refl;
+      apart = refl;
+    } };
 }
 
 /// The multinames.
@@ -206,5 +236,10 @@ impl Flat for Names {
         name_line(alloc, tokens, sizes)
     }
 
-    ghost plain = { record { no_others = λ v instances row after. refl; no_extra = λ v instances row after. refl; once = refl; apart = refl } };
+    ghost plain = { record {
+      no_others = λ v instances row after. refl;
+      no_extra = λ v instances row after. refl;
+      once = refl;
+      apart = refl;
+    } };
 }

@@ -1,5 +1,5 @@
 ghost use Rattle.std.specs.Prelude.{◌≡◌, ◌<◌, ◌≤◌, ◌-◌, ◌^◌, ◌∷◌, [], drop, false, true, ℕ, Some, IfOk, IfErr, OnOk, IsSome, length};
-ghost use Rattle.abc_text_tokens.specs.Ahead.{Follows};
+ghost use Rattle.abc_text_tokens.specs.Ahead.{FollowsLine};
 ghost use Rattle.abc_text_lines.specs.Texts.{instances_in, rows_of, sizes_in};
 ghost use Rattle.abc_text_operands.specs.Places.{Places};
 ghost use Rattle.abc_text_lines.specs.Wordlines.{count_all, count_lines as lines_counted};
@@ -60,7 +60,7 @@ pub struct Reader<'a> {
 }
 
 impl<'a> Reader<'a> {
-    ghost use Rattle.abc_text_reader.specs.Reading.{Entered, Goes, IsBroken, IsReader, Noted, NotedBody, Opens, may_repeat, row_of, rows_left, word_next, labels_now};
+    ghost use Rattle.abc_text_reader.specs.Reading.{Entered, Goes, IsLineBroken, IsReader, NotesLine, NotedBody, Opens, may_repeat, row_of, rows_left, word_next, labels_now};
 
     /// A reader at the first line of a text of less than 2^32 bytes. `NoMemory` where memory runs out.
     pub fn new(alloc: Global, vocabulary: &'a Vocabulary, text: &'a [u8]) -> Reader<'a>
@@ -141,7 +141,7 @@ impl<'a> Reader<'a> {
         ensures row { IfOk result (λ taken. rows_left self.old ≡ row_of taken self.new ∷ rows_left self.new) }
         ensures labels { IfOk result (λ taken. Places self.new.places (labels_now self.new.body)) }
         ensures once { IfOk result (λ taken. may_repeat taken.word ≡ false → taken.repeated ≡ false) }
-        ensures broken { IfErr result (λ e. IsBroken e (rows_left self.old)) }
+        ensures broken { IfErr result (λ e. IsLineBroken e (rows_left self.old)) }
     {
         let Some(line) = self.next else {
             unreachable!()
@@ -168,11 +168,11 @@ impl<'a> Reader<'a> {
         requires next { raws_after line.now ≡ raws_at self.old.next }
         requires numbered { AreNumbered self.old.next }
         requires few { most_lines self.old.next < 2 ^ 32 }
-        requires ahead { Follows self.old.next (drop self.old.place self.old.ahead.items) }
+        requires ahead { FollowsLine self.old.next (drop self.old.place self.old.ahead.items) }
         requires places { Places self.old.places (labels_now self.old.body) }
         requires instances { place_of line.now.word ≡ 14 → 1 ≤ self.old.instances_left }
         requires classes { place_of line.now.word ≡ 20 → 1 ≤ self.old.classes_left }
-        ensures { IfOk result (λ repeated. Noted self.old self.new line.now repeated) }
+        ensures { IfOk result (λ repeated. NotesLine self.old self.new line.now repeated) }
     {
         match line.word {
             Word::Instance => self.instances_left -= 1,

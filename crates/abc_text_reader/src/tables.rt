@@ -5,10 +5,10 @@ ghost use Rattle.abc_text_lines.specs.Tokens.{Token as TextToken};
 ghost use Rattle.abc_text_lines.specs.Words.{place_of as place_of_word};
 ghost use Rattle.abc_file_types.specs.declared.tables.Sizes.{Sizes as TableSizes};
 ghost use Rattle.abc_text_lines.specs.Lines.{Label};
-ghost use Rattle.abc_text_operands.specs.Answers.{Answers};
+ghost use Rattle.abc_text_operands.specs.Answers.{AnswersOperand};
 ghost use Rattle.abc_text_operands.specs.Places.{Places};
 ghost use Rattle.abc_text_tokens.specs.Walks.{tokens_of};
-ghost use Rattle.abc_text_reader.specs.Parts.{ComesNext, IsPlain, Part, ReadsItem, ReadsPart, all_items, error_at, head_says, headed_item, line_says, lone_item, lone_items, made_at, valued_at};
+ghost use Rattle.abc_text_reader.specs.Parts.{ComesNext, IsPlainLine, TextPart, ReadsItem, ReadsTextPart, all_items, error_at, head_says, headed_item, line_says, lone_item, lone_items, made_at, valued_at};
 ghost use Rattle.abc_text_reader.specs.Reading.{Goes, IsReader, may_repeat, rows_left};
 
 use crate::error::{AsmError, refused};
@@ -43,10 +43,12 @@ pub trait Flat {
         sizes: &Sizes,
         places: &IndexMap<&[u8], u32>,
     ) -> Result<Self::Value, LineError>
-        ensures { (instances : ℕ) (labels : List Label) → Places places.now labels → Answers result (line_says named value sizes.now instances labels (tokens_of tokens.now)) };
+        ensures { (instances : ℕ) (labels : List Label) → Places places.now labels
+            → AnswersOperand result
+            (line_says named value sizes.now instances labels (tokens_of tokens.now)) };
 
     /// Nothing else is asked of these lines.
-    ghost plain: { IsPlain named };
+    ghost plain: { IsPlainLine named };
 }
 
 /// Lines of one word, each with the lines below it.
@@ -67,7 +69,7 @@ pub trait Headed {
     ghost value: { TableSizes → List Label → List TextToken → Self.Head };
 
     /// The lines below one.
-    ghost lower: { Part Self.Below };
+    ghost lower: { TextPart Self.Below };
 
     ghost whole: { Self.Head → Self.Below → Self.Value };
 
@@ -86,7 +88,7 @@ pub trait Headed {
     fn below(reader: &mut Reader<'_>) -> Result<Self::Below, AsmError>
         requires { IsReader reader.old }
         ensures goes { IfOk result (λ x. Goes reader.old reader.new) }
-        ensures reads { ReadsPart lower reader.old reader.new result };
+        ensures reads { ReadsTextPart lower reader.old reader.new result };
 
     /// What a line and the lines below it are.
     fn make(head: Self::Head, below: Self::Below) -> Self::Value
@@ -104,7 +106,7 @@ pub trait Headed {
 pub fn read_flat<F: Flat>(reader: &mut Reader<'_>) -> Result<Table<F::Value>, AsmError>
     requires { IsReader reader.old }
     ensures goes { IfOk result (λ xs. Goes reader.old reader.new) }
-    ensures reads { ReadsPart (lone_items F.named F.value) reader.old reader.new result }
+    ensures reads { ReadsTextPart (lone_items F.named F.value) reader.old reader.new result }
 {
     let mut table = Table::new(reader.alloc);
     while let Some(word) = reader.word() {
@@ -140,7 +142,8 @@ fn read_line<F: Flat>(reader: &mut Reader<'_>) -> Result<F::Value, AsmError>
 pub fn read_all<H: Headed>(reader: &mut Reader<'_>) -> Result<Table<H::Value>, AsmError>
     requires { IsReader reader.old }
     ensures goes { IfOk result (λ xs. Goes reader.old reader.new) }
-    ensures reads { ReadsPart (all_items H.named (headed_item H.value H.lower H.whole)) reader.old reader.new result }
+    ensures reads { ReadsTextPart (all_items H.named (headed_item H.value H.lower H.whole)) reader.old
+        reader.new result }
 {
     let mut table = Table::new(reader.alloc);
     while let Some(word) = reader.word() {

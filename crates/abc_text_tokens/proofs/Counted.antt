@@ -9,7 +9,7 @@ use Rattle.abc_text_tokens.specs.declared.line.Line.{Line}
 use Rattle.abc_text_tokens.specs.Cursor.{AreNumbered, Comes, most_lines, raws_at}
 use Rattle.abc_text_lines.specs.Lines.{Label, Row}
 use Rattle.abc_text_lines.specs.Wordlines.{among, count_all, count_lines}
-use Rattle.abc_text_lines.specs.Texts.{Counts, Ends, Raw, Sets, Skips, Step, by_step, is_among, is_taken, labels_set, method_in, row, rows_from, step_of}
+use Rattle.abc_text_lines.specs.Texts.{Counts, Ends, Raw, Sets, Skips, Step, by_step, is_text_among, is_taken, labels_set, method_named, row_of_raw, rows_of_lines, label_step}
 use Rattle.abc_text_tokens.specs.Counts.{count_all_raws, count_raws}
 
 -- a line's place and those after it, whatever it asks of the others
@@ -19,28 +19,28 @@ record Headed (raw : Raw) (raws : List Raw) (rows : List Row) : Type 0 where
   all : List Label
   set : List (List ℕ)
   taken : List (List ℕ)
-  is : rows ≡ row raw labels repeated ∷ rows_from all set taken raws
+  is : rows ≡ row_of_raw raw labels repeated ∷ rows_of_lines all set taken raws
 
 headed_by : (step : Step) (labels : List Label) (set taken : List (List ℕ)) (raw : Raw) (raws : List Raw) → Headed raw raws (by_step step
-    (row raw (labels_set 0 raws) (is_taken (method_in raw.operands) taken) ∷ rows_from (labels_set 0 raws) [] (method_in raw.operands ++ taken) raws)
-    (row raw labels (is_among raw.name set) ∷ rows_from labels (raw.name ∷ set) taken raws)
-    (row raw labels false ∷ rows_from labels set taken raws)
-    (row raw labels false ∷ rows_from labels set taken raws))
-headed_by Ends labels set taken raw raws = record { labels = labels_set 0 raws; repeated = is_taken (method_in raw.operands) taken; all = labels_set 0 raws; set = []; taken = method_in raw.operands ++ taken; is = refl }
-headed_by Sets labels set taken raw raws = record { labels = labels; repeated = is_among raw.name set; all = labels; set = raw.name ∷ set; taken = taken; is = refl }
+    (row_of_raw raw (labels_set 0 raws) (is_taken (method_named raw.operands) taken) ∷ rows_of_lines (labels_set 0 raws) [] (method_named raw.operands ++ taken) raws)
+    (row_of_raw raw labels (is_text_among raw.name set) ∷ rows_of_lines labels (raw.name ∷ set) taken raws)
+    (row_of_raw raw labels false ∷ rows_of_lines labels set taken raws)
+    (row_of_raw raw labels false ∷ rows_of_lines labels set taken raws))
+headed_by Ends labels set taken raw raws = record { labels = labels_set 0 raws; repeated = is_taken (method_named raw.operands) taken; all = labels_set 0 raws; set = []; taken = method_named raw.operands ++ taken; is = refl }
+headed_by Sets labels set taken raw raws = record { labels = labels; repeated = is_text_among raw.name set; all = labels; set = raw.name ∷ set; taken = taken; is = refl }
 headed_by Counts labels set taken raw raws = record { labels = labels; repeated = false; all = labels; set = set; taken = taken; is = refl }
 headed_by Skips labels set taken raw raws = record { labels = labels; repeated = false; all = labels; set = set; taken = taken; is = refl }
 
-headed : (labels : List Label) (set taken : List (List ℕ)) (raw : Raw) (raws : List Raw) → Headed raw raws (rows_from labels set taken (raw ∷ raws))
-headed labels set taken raw raws = headed_by (step_of raw.word) labels set taken raw raws
+headed : (labels : List Label) (set taken : List (List ℕ)) (raw : Raw) (raws : List Raw) → Headed raw raws (rows_of_lines labels set taken (raw ∷ raws))
+headed labels set taken raw raws = headed_by (label_step raw.word) labels set taken raw raws
 
-pub all_counted : (place : ℕ) (labels : List Label) (set taken : List (List ℕ)) (raws : List Raw) → count_all place (rows_from labels set taken raws) ≡ count_all_raws place raws
+pub all_counted : (place : ℕ) (labels : List Label) (set taken : List (List ℕ)) (raws : List Raw) → count_all place (rows_of_lines labels set taken raws) ≡ count_all_raws place raws
 all_counted place labels set taken [] = refl
 all_counted place labels set taken (raw ∷ raws) =
     let h = headed labels set taken raw raws in
     ap (count_all place) h.is ∙ ap (λ (n : ℕ). cond (nat_eq (place_of raw.word) place) (1 + n) n) (all_counted place h.all h.set h.taken raws)
 
-pub lines_counted : (part : List ℕ) (place : ℕ) (labels : List Label) (set taken : List (List ℕ)) (raws : List Raw) → count_lines part place (rows_from labels set taken raws) ≡ count_raws part place raws
+pub lines_counted : (part : List ℕ) (place : ℕ) (labels : List Label) (set taken : List (List ℕ)) (raws : List Raw) → count_lines part place (rows_of_lines labels set taken raws) ≡ count_raws part place raws
 lines_counted part place labels set taken [] = refl
 lines_counted part place labels set taken (raw ∷ raws) =
     let h = headed labels set taken raw raws in

@@ -2,9 +2,9 @@
 use Rattle.std.proofs.Common.{◌≡◌, ℕ, zero, suc, Bool, ◌+◌, ◌<◌, ◌≤◌, true, false, nat_eq, List, [], ◌∷◌, ◌++◌, length, take, drop, get_or, ◌==◌, refl, sym, ap, ◌∙◌, append-nil, append_assoc, arith, inl, inr}
 use Rattle.std.proofs.lemmas.List.{drop_all, take_all}
 use Rattle.abc_text_lines.proofs.Bools.{split_bool}
-use Rattle.abc_text_lines.specs.Scanning.{Between, Scan, scan, scanned}
+use Rattle.abc_text_lines.specs.Scanning.{Between, Scan, scan, scan_of}
 use Rattle.abc_text_lines.specs.declared.word.Word.TheVariants as words
-use Rattle.abc_text_lines.specs.Texts.{Raw, lines_in, onto_first, raw_of, raws_from}
+use Rattle.abc_text_lines.specs.Texts.{Raw, lines_in, onto_first, raws_of_scan, raws_from}
 use Rattle.abc_text_tokens.specs.Cursor.{Splits}
 use Rattle.abc_text_tokens.proofs.Walking.{drop_at, take_at, zero_is}
 
@@ -62,7 +62,7 @@ pub splits_end : (text : List ℕ) (i : ℕ) → length text ≤ i → lines_in 
 splits_end text i le e number =
     let last : lines_in (drop i text) ≡ [] ∷ [] = ap lines_in (drop_all i text le) in
     let all : lines_in text ≡ text ∷ [] = e ∙ ap (led (take i text)) last ∙ ap (λ (l : List ℕ). l ∷ []) (append-nil (take i text) ∙ take_all i text le) in
-    ap (raws_from number) all ∙ ap (λ (raws : List Raw). raw_of number (scan text Between) raws) (no_more (number + 1))
+    ap (raws_from number) all ∙ ap (λ (raws : List Raw). raws_of_scan number (scan text Between) raws) (no_more (number + 1))
 
 -- ---- lines that come
 
@@ -71,6 +71,6 @@ unfolding scan
 none_come number [] e = refl
 none_come number (b ∷ rest) e = let z = zero_is (length (b ∷ rest)) e in absurd (omega arith)
 
-pub broken_comes : (number : ℕ) (s : Scan) (raws : List Raw) → s ≡ scanned true [] → raw_of number s raws ≡ record { number = number; broken = true; word = words.Unknown; name = []; operands = (scan [] Between).tokens } ∷ raws
+pub broken_comes : (number : ℕ) (s : Scan) (raws : List Raw) → s ≡ scan_of true [] → raws_of_scan number s raws ≡ record { number = number; broken = true; word = words.Unknown; name = []; operands = (scan [] Between).tokens } ∷ raws
 unfolding scan
-broken_comes number s raws e = ap (λ (t : Scan). raw_of number t raws) e
+broken_comes number s raws e = ap (λ (t : Scan). raws_of_scan number t raws) e

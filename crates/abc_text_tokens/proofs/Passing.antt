@@ -10,13 +10,13 @@ use Rattle.abc_text_lines.specs.Words.{place_of}
 use Rattle.abc_text_lines.specs.declared.word.Word.{Word}
 use Rattle.abc_text_lines.proofs.Bools.{split_bool}
 use Rattle.abc_text_lines.proofs.Scans.{eq_is, run_read}
-use Rattle.abc_file_types.specs.Opcodes.{named}
+use Rattle.abc_file_types.specs.Opcodes.{names_of_opcodes}
 use Rattle.abc_text_lines.specs.Operands.{is_name}
 use Rattle.abc_text_lines.specs.Wordlines.{lookup}
-use Rattle.abc_text_lines.specs.Texts.{Raw, before_colon, if_name, instruction_in, line_words, lines_in, or_else, raw_in, raws_from, token_word, word_of}
+use Rattle.abc_text_lines.specs.Texts.{Raw, before_colon, if_name, instruction_in, line_words, lines_in, or_else, raw_in, raws_from, token_word, word_of_text}
 use Rattle.abc_text_tokens.specs.Cursor.{Splits, head_in, head_of}
 use Rattle.abc_text_tokens.specs.Counts.{count_all_raws, is_table}
-use Rattle.abc_text_tokens.specs.Tables.{IsOfNoTable, StandsAt, at_place, may_begin, of_line}
+use Rattle.abc_text_tokens.specs.Tables.{IsOfNoTable, StandsAt, word_at_place, may_begin, of_line}
 use Rattle.abc_text_tokens.proofs.Counted.{one_set}
 
 -- ---- words
@@ -33,7 +33,7 @@ apart p k off is =
 abbrev IsOther : List ℕ → List ℕ × Word → Type 0
 IsOther w row = (is_table (place_of row.1) ≡ false) ⊎ (bytes_eq row.0 w ≡ false)
 
-no_row : (rows : List (List ℕ × Word)) (w : List ℕ) (other : Word) (k : ℕ) → is_table k ≡ true → AllByRecursion (IsOther w) rows → at_place k (Some other) ≡ 0 → at_place k (Some (or_else (lookup rows w) other)) ≡ 0
+no_row : (rows : List (List ℕ × Word)) (w : List ℕ) (other : Word) (k : ℕ) → is_table k ≡ true → AllByRecursion (IsOther w) rows → word_at_place k (Some other) ≡ 0 → word_at_place k (Some (or_else (lookup rows w) other)) ≡ 0
 no_row [] w other k is all last = last
 no_row (row ∷ rows) w other k is all last =
     elim (split_bool (bytes_eq row.0 w)) [
@@ -44,7 +44,7 @@ no_row (row ∷ rows) w other k is all last =
       | inr e ↦ rw e (no_row rows w other k is all.1 last)
     ]
 
-no_instruction : (rows : List (ℕ × List ℕ)) (w : List ℕ) (other : Word) (k : ℕ) → is_table k ≡ true → at_place k (Some other) ≡ 0 → at_place k (Some (or_else (instruction_in rows w) other)) ≡ 0
+no_instruction : (rows : List (ℕ × List ℕ)) (w : List ℕ) (other : Word) (k : ℕ) → is_table k ≡ true → word_at_place k (Some other) ≡ 0 → word_at_place k (Some (or_else (instruction_in rows w) other)) ≡ 0
 no_instruction [] w other k is last = last
 no_instruction (row ∷ rows) w other k is last =
     elim (split_bool (bytes_eq row.1 w)) [
@@ -52,7 +52,7 @@ no_instruction (row ∷ rows) w other k is last =
       | inr e ↦ rw e (no_instruction rows w other k is last)
     ]
 
-no_name : (o : Option (List ℕ)) (k : ℕ) → is_table k ≡ true → at_place k (Some (if_name o)) ≡ 0
+no_name : (o : Option (List ℕ)) (k : ℕ) → is_table k ≡ true → word_at_place k (Some (if_name o)) ≡ 0
 no_name None k is = apart 25 k refl is
 no_name (Some name) k is =
     elim (split_bool (is_name name)) [
@@ -60,9 +60,9 @@ no_name (Some name) k is =
       | inr e ↦ rw e (apart 25 k refl is)
     ]
 
-other_word : (w : List ℕ) (k : ℕ) → is_table k ≡ true → AllByRecursion (IsOther w) line_words → at_place k (Some (word_of w)) ≡ 0
-unfolding word_of
-other_word w k is all = no_row line_words w (or_else (instruction_in named w) (if_name (before_colon w))) k is all (no_instruction named w (if_name (before_colon w)) k is (no_name (before_colon w) k is))
+other_word : (w : List ℕ) (k : ℕ) → is_table k ≡ true → AllByRecursion (IsOther w) line_words → word_at_place k (Some (word_of_text w)) ≡ 0
+unfolding word_of_text
+other_word w k is all = no_row line_words w (or_else (instruction_in names_of_opcodes w) (if_name (before_colon w))) k is all (no_instruction names_of_opcodes w (if_name (before_colon w)) k is (no_name (before_colon w) k is))
 
 -- ---- first bytes
 
@@ -106,7 +106,7 @@ front_of (b ∷ bytes) =
       | inr e ↦ record { word = []; rest = b ∷ bytes; is = refl; all = tt; ends = e }
     ]
 
-headed : (b : ℕ) (bytes : List ℕ) (f : Front bytes) → is_run_byte b ≡ true → of_line (b ∷ bytes) ≡ Some (word_of (b ∷ f.word))
+headed : (b : ℕ) (bytes : List ℕ) (f : Front bytes) → is_run_byte b ≡ true → of_line (b ∷ bytes) ≡ Some (word_of_text (b ∷ f.word))
 headed b bytes f e =
     let run = run_read (b ∷ f.word) f.rest (record { some = λ off. absurd cc; bytes = (e, f.all); longest = f.ends }) in
     ap (λ (l : List ℕ). of_line (b ∷ l)) f.is ∙ ap head_in run
@@ -118,16 +118,16 @@ passed (a ∷ []) len run off = absurd (omega arith)
 passed (a ∷ b ∷ []) len run off = absurd (omega arith)
 passed (a ∷ b ∷ c ∷ bytes) len run off =
     let f = front_of (b ∷ c ∷ bytes) in λ k is.
-    ap (at_place k) (headed a (b ∷ c ∷ bytes) f run)
+    ap (word_at_place k) (headed a (b ∷ c ∷ bytes) f run)
     ∙ other_word (a ∷ f.word) k is (others (a ∷ f.word) f.rest (a ∷ b ∷ c ∷ bytes) (ap (λ (l : List ℕ). a ∷ l) f.is) off)
 
 -- ---- where lines stand
 
 pub stands : (line : List ℕ) (o : Option Word) (w : Word) (p : ℕ) → o ≡ of_line line → o ≡ Some w → p ≡ place_of w → p < 26 → StandsAt line (Some p)
-stands line o w p is some place lt = (lt, λ k. ap (at_place k) (sym is ∙ some) ∙ ap (λ (n : ℕ). cond (nat_eq n k) 1 0) (sym place))
+stands line o w p is some place lt = (lt, λ k. ap (word_at_place k) (sym is ∙ some) ∙ ap (λ (n : ℕ). cond (nat_eq n k) 1 0) (sym place))
 
 pub stands_nowhere : (line : List ℕ) (o : Option Word) → o ≡ of_line line → o ≡ None → IsOfNoTable line
-stands_nowhere line o is none = λ k table. ap (at_place k) (sym is ∙ none)
+stands_nowhere line o is none = λ k table. ap (word_at_place k) (sym is ∙ none)
 
 -- ---- one line further
 
@@ -138,7 +138,7 @@ first_or : (t : Bool) (n : ℕ) → cond t (1 + n) n ≡ cond t 1 0 + n
 first_or true n = refl
 first_or false n = zero_plus n
 
-of_tokens : (k n : ℕ) (tokens : List Token) (broken : Bool) (raws : List Raw) → count_all_raws k (raw_in n broken tokens ++ raws) ≡ at_place k (head_of tokens broken) + count_all_raws k raws
+of_tokens : (k n : ℕ) (tokens : List Token) (broken : Bool) (raws : List Raw) → count_all_raws k (raw_in n broken tokens ++ raws) ≡ word_at_place k (head_of tokens broken) + count_all_raws k raws
 of_tokens k n [] false raws = zero_plus (count_all_raws k raws)
 of_tokens k n [] true raws = first_or (nat_eq 25 k) (count_all_raws k raws)
 of_tokens k n (token ∷ tokens) false raws = first_or (nat_eq (place_of (token_word token)) k) (count_all_raws k raws)
@@ -150,18 +150,18 @@ any_number k n m [] = refl
 any_number k n m (line ∷ lines) =
     let s = scan line Between in
     of_tokens k n s.tokens s.broken (raws_from (n + 1) lines)
-    ∙ ap (λ (c : ℕ). at_place k (of_line line) + c) (any_number k (n + 1) (m + 1) lines)
+    ∙ ap (λ (c : ℕ). word_at_place k (of_line line) + c) (any_number k (n + 1) (m + 1) lines)
     ∙ sym (of_tokens k m s.tokens s.broken (raws_from (m + 1) lines))
 
 abbrev pub tables_in : ℕ → List ℕ → ℕ
 tables_in k text = count_all_raws k (raws_from 1 (lines_in text))
 
-line_counted : (k : ℕ) (text line more : List ℕ) → Splits text line more → tables_in k text ≡ at_place k (of_line line) + tables_in k more
+line_counted : (k : ℕ) (text line more : List ℕ) → Splits text line more → tables_in k text ≡ word_at_place k (of_line line) + tables_in k more
 line_counted k text line more splits =
     let s = scan line Between in
     ap (count_all_raws k) (splits 1)
     ∙ of_tokens k 1 s.tokens s.broken (raws_from 2 (lines_in more))
-    ∙ ap (λ (c : ℕ). at_place k (of_line line) + c) (any_number k 2 1 (lines_in more))
+    ∙ ap (λ (c : ℕ). word_at_place k (of_line line) + c) (any_number k 2 1 (lines_in more))
 
 pub passed_on : (counts : List ℕ) (k all : ℕ) (text line more : List ℕ) → Splits text line more → IsOfNoTable line → is_table k ≡ true → get_or counts k 0 + tables_in k text ≡ all → get_or counts k 0 + tables_in k more ≡ all
 passed_on counts k all text line more splits off is was =

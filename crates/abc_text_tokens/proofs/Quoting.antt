@@ -2,11 +2,11 @@
 use Rattle.std.proofs.Common.{◌≡◌, ℕ, zero, suc, ◌+◌, ◌<◌, ◌≤◌, ◌⊎◌, inl, inr, Bool, true, false, ◌&&◌, nat_eq, List, [], ◌∷◌, ◌++◌, length, take, drop, get_or, refl, sym, ap, subst, ◌∙◌, append-nil, append_assoc, arith}
 use Rattle.std.proofs.lemmas.List.{take-append-drop, take_all}
 use Rattle.abc_text_lines.specs.Tokens.{Quoted, IsQuoted, backslash, hex_pair, is_hex, quote}
-use Rattle.abc_text_lines.specs.Scanning.{Between, InQuote, also, scan, scanned}
+use Rattle.abc_text_lines.specs.Scanning.{Between, InQuote, also, scan, scan_of}
 use Rattle.abc_text_lines.proofs.Bools.{and_true, split_bool}
 use Rattle.abc_text_lines.proofs.Scans.{eq_is, quote_ends, quote_goes_on}
 use Rattle.abc_text_lines.proofs.Readings.{quoted_append}
-use Rattle.abc_text_tokens.specs.Walks.{begins_escape, meant}
+use Rattle.abc_text_tokens.specs.Walks.{begins_escape, quoted_text}
 use Rattle.abc_text_tokens.proofs.Walking.{drop_at, take_at}
 
 and_false : (a : Bool) → (a && false) ≡ false
@@ -45,18 +45,18 @@ escape_at (a ∷ b ∷ c ∷ rest) e =
 
 -- ---- what is meant
 
-pub meant_empty : meant [] ≡ []
-unfolding meant
+pub meant_empty : quoted_text [] ≡ []
+unfolding quoted_text
 meant_empty = refl
 
-pub meant_plain : (b : ℕ) (rest : List ℕ) → begins_escape (b ∷ rest) ≡ false → meant (b ∷ rest) ≡ b ∷ meant rest
-unfolding meant
+pub meant_plain : (b : ℕ) (rest : List ℕ) → begins_escape (b ∷ rest) ≡ false → quoted_text (b ∷ rest) ≡ b ∷ quoted_text rest
+unfolding quoted_text
 meant_plain b [] e = refl
 meant_plain b (c ∷ []) e = refl
 meant_plain b (c ∷ d ∷ rest) e = rw e refl
 
-pub meant_escape : (high low : ℕ) (rest : List ℕ) → is_hex high ≡ true → is_hex low ≡ true → meant (backslash ∷ high ∷ low ∷ rest) ≡ hex_pair high low ∷ meant rest
-unfolding meant
+pub meant_escape : (high low : ℕ) (rest : List ℕ) → is_hex high ≡ true → is_hex low ≡ true → quoted_text (backslash ∷ high ∷ low ∷ rest) ≡ hex_pair high low ∷ quoted_text rest
+unfolding quoted_text
 meant_escape high low rest h l = rw (h, l) refl
 
 no_escape : (b : ℕ) (rest : List ℕ) → nat_eq b backslash ≡ false → begins_escape (b ∷ rest) ≡ false
@@ -64,12 +64,12 @@ no_escape b [] e = refl
 no_escape b (c ∷ []) e = refl
 no_escape b (c ∷ d ∷ rest) e = rw e refl
 
-pub meant_is : (inner text : List ℕ) → IsQuoted inner text → meant inner ≡ text
-meant_is inner [] is = ap meant is ∙ meant_empty
+pub meant_is : (inner text : List ℕ) → IsQuoted inner text → quoted_text inner ≡ text
+meant_is inner [] is = ap quoted_text is ∙ meant_empty
 meant_is inner (byte ∷ text) is =
     elim is [
-      | inl p ↦ ap meant p.1 ∙ meant_plain byte p.0 (no_escape byte p.0 p.3) ∙ ap (λ (l : List ℕ). byte ∷ l) (meant_is p.0 text p.4)
-      | inr p ↦ ap meant p.3 ∙ meant_escape p.0 p.1 p.2 p.4 p.5 ∙ ap (λ (l : List ℕ). hex_pair p.0 p.1 ∷ l) (meant_is p.2 text p.7) ∙ ap (λ (b : ℕ). b ∷ text) (sym p.6)
+      | inl p ↦ ap quoted_text p.1 ∙ meant_plain byte p.0 (no_escape byte p.0 p.3) ∙ ap (λ (l : List ℕ). byte ∷ l) (meant_is p.0 text p.4)
+      | inr p ↦ ap quoted_text p.3 ∙ meant_escape p.0 p.1 p.2 p.4 p.5 ∙ ap (λ (l : List ℕ). hex_pair p.0 p.1 ∷ l) (meant_is p.2 text p.7) ∙ ap (λ (b : ℕ). b ∷ text) (sym p.6)
     ]
 
 -- ---- how far a quoted text has been gone over
@@ -104,17 +104,17 @@ opened_escape bytes i le is o =
 pub within_escape : (bytes : List ℕ) (i : ℕ) → begins_escape (drop i bytes) ≡ true → 2 < length (drop i bytes)
 within_escape bytes i is = let e = escape_at (drop i bytes) is in let n : length (drop i bytes) ≡ suc (suc (suc (length e.rest))) = ap length e.is in omega arith
 
-pub closed_at : (bytes : List ℕ) (i : ℕ) → i < length bytes → nat_eq (get_or bytes i 0) quote ≡ true → Opened bytes i → scan bytes (InQuote []) ≡ also (Quoted (meant (take i bytes))) (scan (drop (i + 1) bytes) Between)
+pub closed_at : (bytes : List ℕ) (i : ℕ) → i < length bytes → nat_eq (get_or bytes i 0) quote ≡ true → Opened bytes i → scan bytes (InQuote []) ≡ also (Quoted (quoted_text (take i bytes))) (scan (drop (i + 1) bytes) Between)
 closed_at bytes i lt is o =
     let rest = drop (i + 1) bytes in
     let cut : bytes ≡ take i bytes ++ quote ∷ rest = sym (take-append-drop i bytes) ∙ ap (λ (l : List ℕ). take i bytes ++ l) (drop_at bytes i lt ∙ ap (λ (n : ℕ). n ∷ rest) (eq_is (get_or bytes i 0) quote is)) in
     ap (λ (l : List ℕ). scan l (InQuote [])) cut ∙ quote_goes_on (take i bytes) o.0 (quote ∷ rest) [] o.1 ∙ quote_ends rest o.0 ∙ ap (λ (t : List ℕ). also (Quoted t) (scan rest Between)) (sym (meant_is (take i bytes) o.0 o.1))
 
-none_left : (front : List ℕ) → scan [] (InQuote front) ≡ scanned true []
+none_left : (front : List ℕ) → scan [] (InQuote front) ≡ scan_of true []
 unfolding scan
 none_left front = refl
 
-pub open_at_end : (bytes : List ℕ) (i : ℕ) → length bytes ≤ i → Opened bytes i → scan bytes (InQuote []) ≡ scanned true []
+pub open_at_end : (bytes : List ℕ) (i : ℕ) → length bytes ≤ i → Opened bytes i → scan bytes (InQuote []) ≡ scan_of true []
 open_at_end bytes i le o =
     let whole : bytes ≡ take i bytes ++ [] = sym (take_all i bytes le) ∙ sym (append-nil (take i bytes)) in
     ap (λ (l : List ℕ). scan l (InQuote [])) whole ∙ quote_goes_on (take i bytes) o.0 [] [] o.1 ∙ none_left o.0
@@ -123,7 +123,7 @@ bad_hex : (a b : Bool) → (a && b) ≡ false → (a ≡ false) ⊎ ((a ≡ true
 bad_hex true b e = inr (refl, e)
 bad_hex false b e = inl refl
 
-bad_escape : (rest front : List ℕ) → begins_escape (backslash ∷ rest) ≡ false → scan (backslash ∷ rest) (InQuote front) ≡ scanned true []
+bad_escape : (rest front : List ℕ) → begins_escape (backslash ∷ rest) ≡ false → scan (backslash ∷ rest) (InQuote front) ≡ scan_of true []
 unfolding scan
 bad_escape [] front e = refl
 bad_escape (a ∷ []) front e = elim (split_bool (is_hex a)) [ inl x ↦ rw x refl | inr x ↦ rw x refl ]
@@ -133,7 +133,7 @@ bad_escape (a ∷ b ∷ rest) front e =
       | inr p ↦ let x = p.0 in let y = p.1 in rw (x, y) refl
     ]
 
-pub open_at_escape : (bytes : List ℕ) (i : ℕ) → i < length bytes → nat_eq (get_or bytes i 0) backslash ≡ true → begins_escape (drop i bytes) ≡ false → Opened bytes i → scan bytes (InQuote []) ≡ scanned true []
+pub open_at_escape : (bytes : List ℕ) (i : ℕ) → i < length bytes → nat_eq (get_or bytes i 0) backslash ≡ true → begins_escape (drop i bytes) ≡ false → Opened bytes i → scan bytes (InQuote []) ≡ scan_of true []
 open_at_escape bytes i lt is bad o =
     let rest = drop (i + 1) bytes in
     let cut : drop i bytes ≡ backslash ∷ rest = drop_at bytes i lt ∙ ap (λ (n : ℕ). n ∷ rest) (eq_is (get_or bytes i 0) backslash is) in
@@ -142,12 +142,12 @@ open_at_escape bytes i lt is bad o =
 
 -- ---- what was made of it
 
-pub made_plain : (bytes text : List ℕ) (i : ℕ) → i < length bytes → begins_escape (drop i bytes) ≡ false → text ++ meant (drop i bytes) ≡ meant bytes → (text ++ get_or bytes i 0 ∷ []) ++ meant (drop (i + 1) bytes) ≡ meant bytes
+pub made_plain : (bytes text : List ℕ) (i : ℕ) → i < length bytes → begins_escape (drop i bytes) ≡ false → text ++ quoted_text (drop i bytes) ≡ quoted_text bytes → (text ++ get_or bytes i 0 ∷ []) ++ quoted_text (drop (i + 1) bytes) ≡ quoted_text bytes
 made_plain bytes text i lt bad e =
     let byte = get_or bytes i 0 in
     let cut = drop_at bytes i lt in
     let none : begins_escape (byte ∷ drop (i + 1) bytes) ≡ false = ap begins_escape (sym cut) ∙ bad in
-    append_assoc text (byte ∷ []) (meant (drop (i + 1) bytes)) ∙ ap (λ (l : List ℕ). text ++ l) (sym (ap meant cut ∙ meant_plain byte (drop (i + 1) bytes) none)) ∙ e
+    append_assoc text (byte ∷ []) (quoted_text (drop (i + 1) bytes)) ∙ ap (λ (l : List ℕ). text ++ l) (sym (ap quoted_text cut ∙ meant_plain byte (drop (i + 1) bytes) none)) ∙ e
 
 three_at : (bytes : List ℕ) (i a b c : ℕ) (rest : List ℕ) → drop i bytes ≡ a ∷ b ∷ c ∷ rest → (get_or bytes (i + 1) 0 ≡ b) × (get_or bytes (i + 2) 0 ≡ c)
 three_at bytes zero a b c rest e = (ap (λ (l : List ℕ). get_or l 1 0) e, ap (λ (l : List ℕ). get_or l 2 0) e)
@@ -164,10 +164,10 @@ escape_hex bytes i is =
     let at = three_at bytes i backslash e.high e.low e.rest e.is in
     (ap is_hex at.0 ∙ e.is_high, ap is_hex at.1 ∙ e.is_low)
 
-pub made_escape : (bytes text : List ℕ) (i : ℕ) → begins_escape (drop i bytes) ≡ true → text ++ meant (drop i bytes) ≡ meant bytes → (text ++ hex_pair (get_or bytes (i + 1) 0) (get_or bytes (i + 2) 0) ∷ []) ++ meant (drop (i + 3) bytes) ≡ meant bytes
+pub made_escape : (bytes text : List ℕ) (i : ℕ) → begins_escape (drop i bytes) ≡ true → text ++ quoted_text (drop i bytes) ≡ quoted_text bytes → (text ++ hex_pair (get_or bytes (i + 1) 0) (get_or bytes (i + 2) 0) ∷ []) ++ quoted_text (drop (i + 3) bytes) ≡ quoted_text bytes
 made_escape bytes text i is was =
     let e = escape_at (drop i bytes) is in
     let at = three_at bytes i backslash e.high e.low e.rest e.is in
     let pair : hex_pair (get_or bytes (i + 1) 0) (get_or bytes (i + 2) 0) ≡ hex_pair e.high e.low = ap (λ (n : ℕ). hex_pair n (get_or bytes (i + 2) 0)) at.0 ∙ ap (λ (n : ℕ). hex_pair e.high n) at.1 in
-    let more : meant (drop i bytes) ≡ hex_pair e.high e.low ∷ meant (drop (i + 3) bytes) = ap meant e.is ∙ meant_escape e.high e.low e.rest e.is_high e.is_low ∙ ap (λ (l : List ℕ). hex_pair e.high e.low ∷ meant l) (sym (drop_three bytes i backslash e.high e.low e.rest e.is)) in
-    ap (λ (n : ℕ). (text ++ n ∷ []) ++ meant (drop (i + 3) bytes)) pair ∙ append_assoc text (hex_pair e.high e.low ∷ []) (meant (drop (i + 3) bytes)) ∙ ap (λ (l : List ℕ). text ++ l) (sym more) ∙ was
+    let more : quoted_text (drop i bytes) ≡ hex_pair e.high e.low ∷ quoted_text (drop (i + 3) bytes) = ap quoted_text e.is ∙ meant_escape e.high e.low e.rest e.is_high e.is_low ∙ ap (λ (l : List ℕ). hex_pair e.high e.low ∷ quoted_text l) (sym (drop_three bytes i backslash e.high e.low e.rest e.is)) in
+    ap (λ (n : ℕ). (text ++ n ∷ []) ++ quoted_text (drop (i + 3) bytes)) pair ∙ append_assoc text (hex_pair e.high e.low ∷ []) (quoted_text (drop (i + 3) bytes)) ∙ ap (λ (l : List ℕ). text ++ l) (sym more) ∙ was

@@ -5,7 +5,7 @@ use Rattle.std.proofs.lemmas.List.{length-drop, take-append-drop, take_all}
 use Rattle.std.proofs.lemmas.Bool.Decides.{nat_tests}
 use Rattle.std.specs.List.{AllByRecursion}
 use Rattle.abc_text_lines.specs.Tokens.{Bare, EndsRun, is_blank, is_run_byte, quote, semicolon}
-use Rattle.abc_text_lines.specs.Scanning.{Between, also, scan, scanned}
+use Rattle.abc_text_lines.specs.Scanning.{Between, also, scan, scan_of}
 use Rattle.abc_text_lines.proofs.Scans.{blank_read, eq_is, run_read}
 use Rattle.abc_text_tokens.specs.Walks.{BeginsRun, BeginsToken}
 
@@ -60,12 +60,12 @@ zero_is n e = search rules
 pub some_is : (n : ℕ) → (n == 0) ≡ false → 0 < n
 some_is n e = grind (arith, nat_tests)
 
-pub ended : (rest : List ℕ) → (length rest == 0) ≡ true → scan rest Between ≡ scanned false []
+pub ended : (rest : List ℕ) → (length rest == 0) ≡ true → scan rest Between ≡ scan_of false []
 unfolding scan
 ended [] e = refl
 ended (b ∷ rest) e = let z = zero_is (length (b ∷ rest)) e in absurd (omega arith)
 
-pub commented : (rest : List ℕ) → 0 < length rest → BeginsToken rest → nat_eq (get_or rest 0 0) semicolon ≡ true → scan rest Between ≡ scanned false []
+pub commented : (rest : List ℕ) → 0 < length rest → BeginsToken rest → nat_eq (get_or rest 0 0) semicolon ≡ true → scan rest Between ≡ scan_of false []
 unfolding scan
 commented [] lt begins is = absurd (omega arith)
 commented (b ∷ rest) lt begins is = rw (begins, is) refl

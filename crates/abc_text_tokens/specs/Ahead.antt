@@ -5,7 +5,7 @@ use Rattle.abc_text_tokens.specs.Cursor.{Comes, raws_after}
 use Rattle.abc_text_tokens.specs.declared.line.Line.{Line}
 
 -- Of some lines, the first is the one after a line, if there is that, and each is the one after the line before it.
-abbrev pub Follows : Option Line → List Line → Type 0
-Follows first [] = Unit {0}
-Follows None (line ∷ lines) = ⊥
-Follows (Some first) (line ∷ lines) = Comes (raws_after first) (first.number + 1) (length first.rest.now) (Some line) × Follows (Some line) lines
+abbrev pub FollowsLine : Option Line → List Line → Type 0
+FollowsLine first [] = Unit {0}
+FollowsLine None (line ∷ lines) = ⊥
+FollowsLine (Some first) (line ∷ lines) = Comes (raws_after first) (first.number + 1) (length first.rest.now) (Some line) × FollowsLine (Some line) lines

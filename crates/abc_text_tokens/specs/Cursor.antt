@@ -5,12 +5,12 @@ use Rattle.abc_text_lines.specs.declared.word.Word.{Word}
 use Rattle.abc_text_lines.specs.declared.word.Word.TheVariants as words
 use Rattle.abc_text_lines.specs.Scanning.{Between, Scan, scan}
 use Rattle.abc_text_lines.specs.Tokens.{Token}
-use Rattle.abc_text_lines.specs.Texts.{Raw, lines_in, raw_of as raw_of_scan, raws_from, token_word}
+use Rattle.abc_text_lines.specs.Texts.{Raw, lines_in, raws_of_scan as raw_of_scan, raws_from, token_word}
 use Rattle.abc_text_tokens.specs.declared.line.Line.{Line}
 
 -- the line as the definitions have it
-abbrev pub raw_of : Line → Raw
-raw_of line = record {
+abbrev pub raw_of_line : Line → Raw
+raw_of_line line = record {
   number = line.number;
   broken = line.broken || (scan line.tail.now Between).broken;
   word = line.word;
@@ -37,8 +37,8 @@ abbrev pub left_after : Line → ℕ
 left_after line = line.number + 1 + length line.rest.now
 
 -- the numbers of all lines that follow are 32 bits wide
-abbrev pub IsNumbered : Line → Type 0
-IsNumbered line = left_after line ≤ 2 ^ 32
+abbrev pub AreLinesNumbered : Line → Type 0
+AreLinesNumbered line = left_after line ≤ 2 ^ 32
 
 -- the bytes begin with a line, and the others follow it, at any number
 abbrev pub Splits : List ℕ → List ℕ → List ℕ → Type 0
@@ -47,14 +47,14 @@ Splits text line others = (number : ℕ) → raws_from number (lines_in text) �
 -- Of the lines of some bytes, so many, this is the first with tokens, and the others come after it; or there are none. The first line's number is given.
 abbrev pub Comes : List Raw → ℕ → ℕ → Option Line → Type 0
 Comes raws number count None = raws ≡ []
-Comes raws number count (Some line) = (raws ≡ raw_of line ∷ raws_after line) × (left_after line ≤ number + count) × (length line.rest.now < count)
+Comes raws number count (Some line) = (raws ≡ raw_of_line line ∷ raws_after line) × (left_after line ≤ number + count) × (length line.rest.now < count)
 
 -- ---- the next line, if there is one
 
 -- the lines from it on
 abbrev pub raws_at : Option Line → List Raw
 raws_at None = []
-raws_at (Some line) = raw_of line ∷ raws_after line
+raws_at (Some line) = raw_of_line line ∷ raws_after line
 
 -- how many lines there may be from it on
 abbrev pub most_lines : Option Line → ℕ
@@ -64,4 +64,4 @@ most_lines (Some line) = 1 + length line.rest.now
 -- the numbers of all lines behind the next one, if there is one, are 32 bits wide
 abbrev pub AreNumbered : Option Line → Type 0
 AreNumbered None = Unit {0}
-AreNumbered (Some line) = IsNumbered line
+AreNumbered (Some line) = AreLinesNumbered line

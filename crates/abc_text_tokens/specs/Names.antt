@@ -7,17 +7,17 @@ use Rattle.std.specs.Borrow.{Bor}
 use Rattle.std.specs.List.{position_or_len}
 use Rattle.std.specs.Str.{bytes_eq}
 use Rattle.indexmap.specs.IndexMap.{IndexMap, get_by}
-use Rattle.abc_file_types.specs.Opcodes.{name_at, named}
+use Rattle.abc_file_types.specs.Opcodes.{name_at, names_of_opcodes}
 
-abbrev pub is_named : List ℕ → Bor (List ℕ) → Bool
-is_named name key = bytes_eq key.now name
+abbrev pub is_name_equal : List ℕ → Bor (List ℕ) → Bool
+is_name_equal name key = bytes_eq key.now name
 
 -- values by names
 abbrev pub NameMap : Type 0 → Type 0
 NameMap V = IndexMap (Bor (List ℕ)) V (BuildHasherDefault FoldHasher)
 
-abbrev pub found : {V : Type 0} → NameMap V → List ℕ → Option V
-found m name = get_by (is_named name) m
+abbrev pub found_name : {V : Type 0} → NameMap V → List ℕ → Option V
+found_name m name = get_by (is_name_equal name) m
 
 -- the first of two, where it is there
 abbrev pub either_of : {A : Type 0} → Option A → Option A → Option A
@@ -25,21 +25,21 @@ either_of (Some n) o = Some n
 either_of None o = o
 
 -- The name has this value now, and the others have what they had.
-abbrev pub Gives : {V : Type 0} → NameMap V → NameMap V → List ℕ → V → Type 0
-Gives old new name value = (other : List ℕ) → found new other ≡ (if bytes_eq name other then Some value else found old other)
+abbrev pub GivesName : {V : Type 0} → NameMap V → NameMap V → List ℕ → V → Type 0
+GivesName old new name value = (other : List ℕ) → found_name new other ≡ (if bytes_eq name other then Some value else found_name old other)
 
 -- The name has this value now, unless it had one.
-abbrev pub Adds : {V : Type 0} → NameMap V → NameMap V → List ℕ → V → Type 0
-Adds old new name value = (other : List ℕ) → found new other ≡ either_of (found old other) (if bytes_eq name other then Some value else None)
+abbrev pub AddsName : {V : Type 0} → NameMap V → NameMap V → List ℕ → V → Type 0
+AddsName old new name value = (other : List ℕ) → found_name new other ≡ either_of (found_name old other) (if bytes_eq name other then Some value else None)
 
 -- the opcode of the first instruction of a name
-abbrev pub opcode_in : List (ℕ × List ℕ) → List ℕ → Option ℕ
-opcode_in [] name = None
-opcode_in (row ∷ rows) name = if bytes_eq row.1 name then Some row.0 else opcode_in rows name
+abbrev pub opcode_of_name : List (ℕ × List ℕ) → List ℕ → Option ℕ
+opcode_of_name [] name = None
+opcode_of_name (row ∷ rows) name = if bytes_eq row.1 name then Some row.0 else opcode_of_name rows name
 
 -- the map has the opcode of each instruction by its name, and nothing by other names
 abbrev pub KnowsOpcodes : NameMap ℕ → Type 0
-KnowsOpcodes m = (name : List ℕ) → found m name ≡ opcode_in named name
+KnowsOpcodes m = (name : List ℕ) → found_name m name ≡ opcode_of_name names_of_opcodes name
 
 abbrev pub first_named : Option (List ℕ) → ℕ → List ℕ → Option ℕ → Option ℕ
 first_named None op name other = other
@@ -57,5 +57,5 @@ abbrev pub before_blank : List ℕ → List ℕ
 before_blank name = take (position_or_len (λ b. nat_eq b 0x20) name) name
 
 -- the row's word and its kind
-abbrev pub unpadded : {K : Type 0} → List ℕ × K → List ℕ × K
-unpadded row = (before_blank row.0, row.1)
+abbrev pub without_blanks : {K : Type 0} → List ℕ × K → List ℕ × K
+without_blanks row = (before_blank row.0, row.1)

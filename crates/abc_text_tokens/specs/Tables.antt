@@ -23,18 +23,18 @@ may_begin first second third =
 -- ---- places
 
 -- a line with this word stands at the place
-abbrev pub at_place : ℕ → Option Word → ℕ
-at_place k None = 0
-at_place k (Some word) = if nat_eq (place_of word) k then 1 else 0
+abbrev pub word_at_place : ℕ → Option Word → ℕ
+word_at_place k None = 0
+word_at_place k (Some word) = if nat_eq (place_of word) k then 1 else 0
 
 abbrev pub of_line : List ℕ → Option Word
 of_line line = head_in (scan line Between)
 
 -- whatever the line is, it is not one of a table
 abbrev pub IsOfNoTable : List ℕ → Type 0
-IsOfNoTable line = (k : ℕ) → is_table k ≡ true → at_place k (of_line line) ≡ 0
+IsOfNoTable line = (k : ℕ) → is_table k ≡ true → word_at_place k (of_line line) ≡ 0
 
 -- where a line stands, or that it is not one of a table
 abbrev pub StandsAt : List ℕ → Option ℕ → Type 0
 StandsAt line None = IsOfNoTable line
-StandsAt line (Some place) = (place < 26) × ((k : ℕ) → at_place k (of_line line) ≡ (if nat_eq place k then 1 else 0))
+StandsAt line (Some place) = (place < 26) × ((k : ℕ) → word_at_place k (of_line line) ≡ (if nat_eq place k then 1 else 0))

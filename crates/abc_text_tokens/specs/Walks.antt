@@ -3,7 +3,7 @@ use Rattle.std.specs.Prelude.{◌≡◌, ℕ, ◌<◌, ◌+◌, Bool, true, fals
 use Rattle.std.specs.declared.option.Option.{Option}
 use Rattle.abc_text_lines.specs.Tokens as text
 use Rattle.abc_text_lines.specs.Tokens.{Bare, Quoted, IsQuoted, backslash, hex_pair, is_blank, is_hex, is_run_byte, quote}
-use Rattle.abc_text_lines.specs.Scanning.{Between, InQuote, Scan, also, scan, scanned}
+use Rattle.abc_text_lines.specs.Scanning.{Between, InQuote, Scan, also, scan, scan_of}
 use Rattle.abc_text_tokens.specs.declared.token.Token.{Token}
 use Rattle.abc_text_tokens.specs.declared.token.Token.TheVariants as tokens
 use Rattle.abc_text_tokens.specs.declared.token.Next.{Next}
@@ -25,37 +25,37 @@ begins_escape (byte ∷ high ∷ low ∷ rest) = nat_eq byte backslash && (is_he
 begins_escape _ = false
 
 -- the text that is meant by the bytes between two quotes: a `\` and two hexadecimal digits are a byte, and every other byte is itself
-unfoldable pub meant : List ℕ → List ℕ
-meant [] = []
-meant (byte ∷ []) = byte ∷ []
-meant (byte ∷ high ∷ []) = byte ∷ high ∷ []
-meant (byte ∷ high ∷ low ∷ rest) = if nat_eq byte backslash && (is_hex high && is_hex low) then hex_pair high low ∷ meant rest else byte ∷ meant (high ∷ low ∷ rest)
+unfoldable pub quoted_text : List ℕ → List ℕ
+quoted_text [] = []
+quoted_text (byte ∷ []) = byte ∷ []
+quoted_text (byte ∷ high ∷ []) = byte ∷ high ∷ []
+quoted_text (byte ∷ high ∷ low ∷ rest) = if nat_eq byte backslash && (is_hex high && is_hex low) then hex_pair high low ∷ quoted_text rest else byte ∷ quoted_text (high ∷ low ∷ rest)
 
 -- a token of the code, as the definitions have it: a quoted text by what its bytes mean
-abbrev pub token_of : Token → text.Token
-token_of (tokens.Bare run) = Bare run.now
-token_of (tokens.Quoted quoted) = Quoted (meant quoted.now)
+abbrev pub token_as_text : Token → text.Token
+token_as_text (tokens.Bare run) = Bare run.now
+token_as_text (tokens.Quoted quoted) = Quoted (quoted_text quoted.now)
 
 -- the same of some tokens
 abbrev pub tokens_of : List Token → List text.Token
-tokens_of ts = map token_of ts
+tokens_of ts = map token_as_text ts
 
 -- A quoted text ends after so many bytes, or isn't closed.
 abbrev pub Closes : List ℕ → Option ℕ → Type 0
-Closes bytes (Some count) = (count < length bytes) × (scan bytes (InQuote []) ≡ also (Quoted (meant (take count bytes))) (scan (drop (count + 1) bytes) Between))
-Closes bytes None = scan bytes (InQuote []) ≡ scanned true []
+Closes bytes (Some count) = (count < length bytes) × (scan bytes (InQuote []) ≡ also (Quoted (quoted_text (take count bytes))) (scan (drop (count + 1) bytes) Between))
+Closes bytes None = scan bytes (InQuote []) ≡ scan_of true []
 
 -- The line goes on with a token and what stands behind it, or has no more, and is broken or not.
-abbrev pub Finds : List ℕ → Next → Type 0
-Finds bytes (nexts.Bare run rest) = (length rest.now < length bytes) × (scan bytes Between ≡ also (Bare run.now) (scan rest.now Between))
-Finds bytes (nexts.Quoted quoted rest) = (length rest.now < length bytes) × (scan bytes Between ≡ also (Quoted (meant quoted.now)) (scan rest.now Between))
-Finds bytes nexts.End = scan bytes Between ≡ scanned false []
-Finds bytes nexts.Broken = scan bytes Between ≡ scanned true []
+abbrev pub FindsToken : List ℕ → Next → Type 0
+FindsToken bytes (nexts.Bare run rest) = (length rest.now < length bytes) × (scan bytes Between ≡ also (Bare run.now) (scan rest.now Between))
+FindsToken bytes (nexts.Quoted quoted rest) = (length rest.now < length bytes) × (scan bytes Between ≡ also (Quoted (quoted_text quoted.now)) (scan rest.now Between))
+FindsToken bytes nexts.End = scan bytes Between ≡ scan_of false []
+FindsToken bytes nexts.Broken = scan bytes Between ≡ scan_of true []
 
 -- These are the tokens of the line, which is broken after them or not.
-abbrev pub Gathers : List ℕ → List Token → Bool → Type 0
-Gathers line ts broken = scan line Between ≡ scanned broken (tokens_of ts)
+abbrev pub GathersTokens : List ℕ → List Token → Bool → Type 0
+GathersTokens line ts broken = scan line Between ≡ scan_of broken (tokens_of ts)
 
 -- tokens before others of the line
-abbrev pub prefixed : List text.Token → Scan → Scan
-prefixed front rest = scanned rest.broken (front ++ rest.tokens)
+abbrev pub tokens_before : List text.Token → Scan → Scan
+tokens_before front rest = scan_of rest.broken (front ++ rest.tokens)

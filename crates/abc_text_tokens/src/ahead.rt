@@ -1,7 +1,7 @@
 //! Lines that are met ahead of reading them, so that they need not be found again.
 ghost use Rattle.std.specs.Prelude.{◌+◌, drop, length, IfOk, OnOk, Some};
-ghost use Rattle.abc_text_tokens.specs.Ahead.{Follows};
-ghost use Rattle.abc_text_tokens.specs.Cursor.{AreNumbered, Comes, IsNumbered, raws_after};
+ghost use Rattle.abc_text_tokens.specs.Ahead.{FollowsLine};
+ghost use Rattle.abc_text_tokens.specs.Cursor.{AreNumbered, Comes, AreLinesNumbered, raws_after};
 
 use crate::line::Line;
 use crate::vocabulary::Vocabulary;
@@ -19,7 +19,7 @@ pub fn meet<'a>(
     ahead: &mut Vec<Line<'a>>,
 ) -> Result<(), NoMemory>
     requires { AreNumbered first }
-    ensures { OnOk result (Follows first.entry ahead.new.items) }
+    ensures { OnOk result (FollowsLine first.entry ahead.new.items) }
 {
     ahead.clear();
     let mut next = first;
@@ -43,9 +43,9 @@ pub fn look_ahead<'a>(
     ahead: &mut Vec<Line<'a>>,
     place: usize,
 ) -> Result<usize, NoMemory>
-    requires numbered { IsNumbered line.now }
-    requires ahead { Follows (Some line.now) (drop place ahead.old.items) }
-    ensures { IfOk result (λ behind. Follows (Some line.now) (drop behind ahead.new.items)) }
+    requires numbered { AreLinesNumbered line.now }
+    requires ahead { FollowsLine (Some line.now) (drop place ahead.old.items) }
+    ensures { IfOk result (λ behind. FollowsLine (Some line.now) (drop behind ahead.new.items)) }
 {
     if place < ahead.len() || !matches!(line.word, Word::Method | Word::Instance) {
         return Ok(place);
@@ -57,7 +57,7 @@ pub fn look_ahead<'a>(
 /// The line after a line, by a search for it.
 #[inline(never)]
 fn sought_after<'a>(vocabulary: &Vocabulary, line: &Line<'a>) -> Option<Line<'a>>
-    requires { IsNumbered line.now }
+    requires { AreLinesNumbered line.now }
     ensures { Comes (raws_after line.now) (line.now.number + 1) (length line.now.rest.now) result }
 {
     line.after(vocabulary)
@@ -70,10 +70,10 @@ pub fn line_after<'a>(
     ahead: &[Line<'a>],
     place: usize,
 ) -> (Option<Line<'a>>, usize)
-    requires numbered { IsNumbered line.now }
-    requires ahead { Follows (Some line.now) (drop place ahead.now) }
+    requires numbered { AreLinesNumbered line.now }
+    requires ahead { FollowsLine (Some line.now) (drop place ahead.now) }
     ensures comes { Comes (raws_after line.now) (line.now.number + 1) (length line.now.rest.now) result.0 }
-    ensures ahead { Follows result.0 (drop result.1 ahead.now) }
+    ensures ahead { FollowsLine result.0 (drop result.1 ahead.now) }
 {
     if place < ahead.len() {
         (Some(ahead[place]), place + 1)

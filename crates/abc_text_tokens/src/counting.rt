@@ -1,7 +1,7 @@
 ghost use Rattle.std.specs.Prelude.{◌≡◌, ◌<◌, ◌^◌, ℕ, List, drop};
-ghost use Rattle.abc_text_tokens.specs.Ahead.{Follows};
+ghost use Rattle.abc_text_tokens.specs.Ahead.{FollowsLine};
 ghost use Rattle.abc_text_tokens.specs.Counts.{count_raws};
-ghost use Rattle.abc_text_lines.specs.Texts.{rows_from};
+ghost use Rattle.abc_text_lines.specs.Texts.{rows_of_lines};
 ghost use Rattle.abc_text_lines.specs.Lines.{Label};
 ghost use Rattle.abc_text_lines.specs.Wordlines.{among, count_lines as lines_counted};
 ghost use Rattle.abc_text_tokens.specs.Cursor.{AreNumbered, most_lines, raws_at};
@@ -35,8 +35,9 @@ pub fn count_lines<'a>(
 ) -> u32
     requires numbered { AreNumbered first }
     requires few { most_lines first < 2 ^ 32 }
-    requires ahead { Follows first (drop met ahead.now) }
-    ensures { (labels : List Label) (set taken : List (List ℕ)) → result ≡ lines_counted part.now place (rows_from labels set taken (raws_at first.entry)) }
+    requires ahead { FollowsLine first (drop met ahead.now) }
+    ensures { (labels : List Label) (set taken : List (List ℕ))
+        → result ≡ lines_counted part.now place (rows_of_lines labels set taken (raws_at first.entry)) }
 {
     count_ahead(vocabulary, first, ahead, met, part, place)
 }
@@ -52,7 +53,7 @@ fn count_ahead<'a>(
 ) -> u32
     requires numbered { AreNumbered first }
     requires few { most_lines first < 2 ^ 32 }
-    requires ahead { Follows first (drop met ahead.now) }
+    requires ahead { FollowsLine first (drop met ahead.now) }
     ensures { result ≡ count_raws part.now place (raws_at first.entry) }
 {
     let mut count: u32 = 0;

@@ -1,5 +1,5 @@
 ghost use Rattle.std.specs.Prelude.{◌≡◌, IfOk};
-ghost use Rattle.abc_text_lines.specs.Texts.{word_of};
+ghost use Rattle.abc_text_lines.specs.Texts.{word_of_text};
 ghost use Rattle.abc_text_tokens.specs.Entries.{AreRight};
 
 use abc_base::NoMemory;
@@ -46,7 +46,7 @@ pub fn no_entries(alloc: Global) -> Result<Vec<Entry>, NoMemory>
 /// Puts a word in its place.
 pub fn put(entries: &mut Vec<Entry>, name: &'static [u8], word: Word)
     requires right { AreRight entries.old.items }
-    requires says { word ≡ word_of name.now }
+    requires says { word ≡ word_of_text name.now }
     ensures { AreRight entries.new.items }
 {
     let place = place_of(name);

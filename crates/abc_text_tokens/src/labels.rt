@@ -1,9 +1,9 @@
 ghost use Rattle.std.specs.Prelude.{◌≡◌, ◌+◌, ◌-◌, ◌<◌, ◌≤◌, ◌^◌, ℕ, List, IfOk, OnOk, Some};
 ghost use Rattle.abc_text_lines.specs.Texts.{labels_set};
-ghost use Rattle.abc_text_tokens.specs.Ahead.{Follows};
-ghost use Rattle.abc_text_tokens.specs.Labels.{Leads, TakesIn, found_on};
-ghost use Rattle.abc_text_tokens.specs.Cursor.{AreNumbered, IsNumbered, most_lines, raw_of, raws_at};
-ghost use Rattle.abc_text_tokens.specs.Names.{found};
+ghost use Rattle.abc_text_tokens.specs.Ahead.{FollowsLine};
+ghost use Rattle.abc_text_tokens.specs.Labels.{LabelsLead, TakesIn, found_label};
+ghost use Rattle.abc_text_tokens.specs.Cursor.{AreNumbered, AreLinesNumbered, most_lines, raw_of_line, raws_at};
+ghost use Rattle.abc_text_tokens.specs.Names.{found_name};
 
 use crate::line::Line;
 use crate::noting::note;
@@ -33,8 +33,8 @@ pub fn labels_of<'a>(
 ) -> Result<IndexMap<&'a [u8], u32>, NoMemory>
     requires numbered { AreNumbered first }
     requires few { most_lines first < 2 ^ 32 }
-    requires ahead { Follows first ahead.now }
-    ensures { IfOk result (λ m. Leads m (labels_set 0 (raws_at first.entry))) }
+    requires ahead { FollowsLine first ahead.now }
+    ensures { IfOk result (λ m. LabelsLead m (labels_set 0 (raws_at first.entry))) }
 {
     let mut labels = IndexMap::new(alloc);
     if let Some(line) = first {
@@ -53,7 +53,7 @@ fn take_in<'a>(
     line: &Line<'a>,
 ) -> Result<Option<u32>, NoMemory>
     requires { instructions < 2 ^ 32 - 1 }
-    ensures { IfOk result (λ more. TakesIn labels.old instructions (raw_of line.now) labels.new more) }
+    ensures { IfOk result (λ more. TakesIn labels.old instructions (raw_of_line line.now) labels.new more) }
 {
     match line.word {
         Word::Body => return Ok(None),
@@ -70,12 +70,14 @@ fn note_met<'a, 'l>(
     first: &'l Line<'a>,
     ahead: &'l [Line<'a>],
 ) -> Result<Reached<'a>, NoMemory>
-    requires numbered { IsNumbered first.now }
+    requires numbered { AreLinesNumbered first.now }
     requires few { most_lines (Some first.now) < 2 ^ 32 }
-    requires ahead { Follows (Some first.now) ahead.now }
+    requires ahead { FollowsLine (Some first.now) ahead.now }
     ensures numbered { IfOk result (λ r. AreNumbered r.next) }
     ensures few { IfOk result (λ r. r.instructions + most_lines r.next ≤ most_lines (Some first.now)) }
-    ensures found { IfOk result (λ r. (name : List ℕ) → found_on labels.new r.instructions (raws_at r.next) name ≡ found_on labels.old 0 (raws_at (Some first.now)) name) }
+    ensures found { IfOk result (λ r. (name : List ℕ)
+        → found_label labels.new r.instructions (raws_at r.next) name
+        ≡ found_label labels.old 0 (raws_at (Some first.now)) name) }
 {
     let mut instructions = 0;
     let mut line = first;
@@ -106,7 +108,8 @@ fn note_rest<'a>(
 ) -> Result<(), NoMemory>
     requires numbered { AreNumbered first }
     requires few { before + most_lines first < 2 ^ 32 }
-    ensures { OnOk result ((name : List ℕ) → found labels.new name ≡ found_on labels.old before (raws_at first.entry) name) }
+    ensures { OnOk result ((name : List ℕ)
+        → found_name labels.new name ≡ found_label labels.old before (raws_at first.entry) name) }
 {
     let mut instructions = before;
     let mut next = first;

@@ -28,12 +28,12 @@ pub struct Line<'a> {
 }
 
 impl<'a> Line<'a> {
-    ghost use Rattle.abc_text_tokens.specs.Cursor.{IsNumbered, raws_after};
+    ghost use Rattle.abc_text_tokens.specs.Cursor.{AreLinesNumbered, raws_after};
 
     /// The next line with tokens.
     #[inline(always)]
     pub fn after(&self, vocabulary: &Vocabulary) -> Option<Line<'a>>
-        requires { IsNumbered self.now }
+        requires { AreLinesNumbered self.now }
         ensures { Comes (raws_after self.now) (self.now.number + 1) (length self.now.rest.now) result }
     {
         next_line(vocabulary, self.rest, u64::from(self.number) + 1)

@@ -1,5 +1,5 @@
 ghost use Rattle.std.specs.Prelude.{◌≡◌, IfOk, OnOk};
-ghost use Rattle.abc_text_tokens.specs.Names.{Adds, Gives, found};
+ghost use Rattle.abc_text_tokens.specs.Names.{AddsName, GivesName, found_name};
 
 use abc_base::NoMemory;
 use indexmap::IndexMap;
@@ -10,8 +10,8 @@ fn give<'a, V: Copy>(
     name: &'a [u8],
     value: V,
 ) -> Result<Option<V>, NoMemory>
-    ensures had { IfOk result (λ had. had ≡ found values.old name.now) }
-    ensures gives { OnOk result (Gives values.old values.new name.now value) }
+    ensures had { IfOk result (λ had. had ≡ found_name values.old name.now) }
+    ensures gives { OnOk result (GivesName values.old values.new name.now value) }
 {
     let had = values.insert(name, value)?;
     Ok(had)
@@ -23,7 +23,7 @@ pub fn note<'a, V: Copy>(
     name: &'a [u8],
     value: V,
 ) -> Result<(), NoMemory>
-    ensures { OnOk result (Adds values.old values.new name.now value) }
+    ensures { OnOk result (AddsName values.old values.new name.now value) }
 {
     match give(values, name, value)? {
         Some(first) => {

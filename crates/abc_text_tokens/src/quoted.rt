@@ -1,6 +1,6 @@
 ghost use Rattle.std.specs.Prelude.{◌≡◌, ◌<◌, length, IfOk, true};
 ghost use Rattle.abc_text_lines.specs.Tokens.{hex_pair as byte_of_pair, hex_value as value_of, is_hex as is_hex_byte};
-ghost use Rattle.abc_text_tokens.specs.Walks.{Closes, begins_escape, meant};
+ghost use Rattle.abc_text_tokens.specs.Walks.{Closes, begins_escape, quoted_text};
 
 use crate::bytes::is_hex;
 use abc_base::{Bytes, NoMemory};
@@ -60,7 +60,7 @@ fn is_escape(bytes: &[u8]) -> bool
 /// The text that is meant by the bytes between two quotes: a `\` and two hexadecimal digits are a byte, and every other
 /// byte is itself. `NoMemory` where memory runs out.
 pub fn unquoted(alloc: Global, quoted: &[u8]) -> Result<Bytes, NoMemory>
-    ensures { IfOk result (λ text. text ≡ meant quoted.now) }
+    ensures { IfOk result (λ text. text ≡ quoted_text quoted.now) }
 {
     let mut text = Bytes::new(alloc);
     let mut i: usize = 0;

@@ -1,6 +1,6 @@
 ghost use Rattle.std.specs.Prelude.{◌≡◌, List, ℕ, OnOk, IfOk, Some};
 ghost use Rattle.abc_text_lines.specs.Wordlines.{lookup};
-ghost use Rattle.abc_text_lines.specs.Texts.{if_name, line_words, or_else, word_of};
+ghost use Rattle.abc_text_lines.specs.Texts.{if_name, line_words, or_else, word_of_text};
 ghost use Rattle.abc_text_tokens.specs.Names.{KnowsOpcodes};
 
 use crate::kinds::find_kind;
@@ -51,7 +51,7 @@ fn line_word(word: &[u8]) -> Option<Word>
 #[inline(never)]
 pub fn sought(opcodes: &IndexMap<&'static [u8], u8>, word: &[u8]) -> Word
     requires { KnowsOpcodes opcodes.now }
-    ensures { result ≡ word_of word.now }
+    ensures { result ≡ word_of_text word.now }
 {
     if let Some(name) = name_before_colon(word) {
         return label_or_unknown(name);

@@ -34,7 +34,8 @@ fn place_in_tables(vocabulary: &Vocabulary, line: &[u8]) -> Option<usize>
 /// How many of the lines of a text stand at each place of a table.
 fn counts_of(vocabulary: &Vocabulary, text: &[u8]) -> [u32; 26]
     requires { length text.now < 2 ^ 32 }
-    ensures { (k : ℕ) → is_table k ≡ true → slice_index result k ≡ count_all_raws k (raws_from 1 (lines_in text.now)) }
+    ensures { (k : ℕ) → is_table k ≡ true
+        → slice_index result k ≡ count_all_raws k (raws_from 1 (lines_in text.now)) }
 {
     let mut counts = [0; 26];
     let mut rest = text;

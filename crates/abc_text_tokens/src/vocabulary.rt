@@ -22,7 +22,7 @@ pub struct Vocabulary {
 }
 
 impl Vocabulary {
-    ghost use Rattle.abc_text_lines.specs.Texts.{word_of};
+    ghost use Rattle.abc_text_lines.specs.Texts.{word_of_text};
 
     /// All words. `NoMemory` where memory runs out.
     pub fn new(alloc: Global) -> Result<Vocabulary, NoMemory> {
@@ -36,7 +36,7 @@ impl Vocabulary {
     /// What a word at the head of a line says that the line is.
     #[inline(always)]
     pub fn word(&self, word: &[u8]) -> Word
-        ensures { result ≡ word_of word.now }
+        ensures { result ≡ word_of_text word.now }
     {
         match self.entries.get(place_of(word)) {
             Some(entry) if entry.name == word => entry.word,

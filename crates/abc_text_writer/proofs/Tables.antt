@@ -5,10 +5,10 @@ use Rattle.std.proofs.lemmas.List.{length-set, take-set-le, take_more_set}
 use Rattle.std.proofs.lemmas.Grind.{take-set_at}
 use Rattle.std.proofs.lemmas.List.FromFn.{get_or-map-range_with_len}
 use Rattle.abc_text_writer.specs.declared.escaping.TheConstants.{DIGITS, ESCAPES}
-use Rattle.abc_base.specs.Escapes.{escape_of, hex_digit, is_plain}
+use Rattle.abc_base.specs.Escapes.{escape_of, hex_digit, is_plain_byte}
 
 abbrev row_of : ℕ → List ℕ
-row_of byte = (if is_plain byte then byte else 0x5c) ∷ hex_digit (byte / 16) ∷ hex_digit (byte % 16) ∷ (if is_plain byte then 1 else 3) ∷ []
+row_of byte = (if is_plain_byte byte then byte else 0x5c) ∷ hex_digit (byte / 16) ∷ hex_digit (byte % 16) ∷ (if is_plain_byte byte then 1 else 3) ∷ []
 
 same_digits : DIGITS ≡ map hex_digit (range_with_len 0 16)
 same_digits = refl
@@ -55,4 +55,4 @@ pub row_shows : (piece row : List ℕ) (at byte : ℕ) → row ≡ row_of byte �
     → take (at + get_or row 3 0) (four_set piece at (get_or row 0 0) (get_or row 1 0) (get_or row 2 0) (get_or row 3 0)) ≡ take at piece ++ escape_of byte
 row_shows piece row at byte e room =
     ap (λ (r : List ℕ). take (at + get_or r 3 0) (four_set piece at (get_or r 0 0) (get_or r 1 0) (get_or r 2 0) (get_or r 3 0))) e
-    ∙ shows_when piece at byte (hex_digit (byte / 16)) (hex_digit (byte % 16)) (is_plain byte) room
+    ∙ shows_when piece at byte (hex_digit (byte / 16)) (hex_digit (byte % 16)) (is_plain_byte byte) room

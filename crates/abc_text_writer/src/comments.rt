@@ -1,7 +1,7 @@
 //! What ends a line: the front of the text that its name has.
 ghost use Rattle.std.specs.Prelude.{◌≡◌, ◌++◌, ◌≤◌, ◌-◌, length, take, codes, Some};
-ghost use Rattle.abc_base.specs.Escapes.{escaped};
-ghost use Rattle.abc_text_lines.specs.Listing.{multiname_comment, name_comment, name_in, operand_comment, quoted_comment, string_at as string_of};
+ghost use Rattle.abc_base.specs.Escapes.{with_escapes};
+ghost use Rattle.abc_text_lines.specs.Listing.{multiname_comment, name_comment, string_of_name, operand_comment, quoted_comment, string_at as string_of};
 ghost use Rattle.abc_file_types.specs.declared.opcodes.Pool.TheVariants as pools;
 ghost use Rattle.abc_varint.specs.Puts.{Puts, PutsWhole};
 
@@ -31,10 +31,11 @@ pub fn string_at(abc: &Abc, n: u32) -> &[u8]
 }
 
 /// A text of few bytes, as what ends a line.
-#[tactic(auto, unfolding(abc_base::specs::Escapes::escaped))]
+#[tactic(auto, unfolding(abc_base::specs::Escapes::with_escapes))]
 fn put_quoted_front(text: &[u8], out: &mut Vec<u8>) -> Result<(), NoMemory>
     requires { length text.now ≤ 16 }
-    ensures { PutsWhole out.old.items out.new.items result (codes " ; \"" ++ (escaped text.now ++ codes "\"")) }
+    ensures { PutsWhole out.old.items out.new.items result
+        (codes " ; \"" ++ (with_escapes text.now ++ codes "\"")) }
 {
     let mut piece = QUOTED;
     let mut at = 4;
@@ -78,7 +79,7 @@ pub fn put_name_comment(abc: &Shown<'_>, n: u32, out: &mut Vec<u8>) -> Result<()
 
 /// The string that a multiname has, or 0.
 pub fn name_of(multiname: &Multiname) -> u32
-    ensures { result ≡ name_in (Some multiname.now) }
+    ensures { result ≡ string_of_name (Some multiname.now) }
 {
     match multiname {
         Multiname::QName { name, .. } => *name,

@@ -1,7 +1,7 @@
 //! Bytes as they are shown, by a table: with no branch, which can't be foreseen in bytes that are no text.
 ghost use Rattle.std.specs.Prelude.{◌≡◌, ◌∷◌, ◌++◌, ◌<◌, ◌≤◌, ◌+◌, ◌/◌, ◌%◌, [], if◌then◌else◌, take};
 ghost use Rattle.abc_text_writer.specs.declared.escaping.TheConstants.{DIGITS as all_digits, ESCAPES as all_escapes};
-ghost use Rattle.abc_base.specs.Escapes.{escape_of, hex_digit as hex_digit_of, is_plain};
+ghost use Rattle.abc_base.specs.Escapes.{escape_of, hex_digit as hex_digit_of, is_plain_byte};
 
 /// How many bytes are shown at a time.
 pub const PIECE: usize = 64;
@@ -292,7 +292,9 @@ pub fn hex_digit(n: u8) -> u8
 #[inline(always)]
 fn row_at(escapes: &[[u8; 4]; 256], byte: u8) -> [u8; 4]
     requires { escapes.now ≡ all_escapes }
-    ensures { result ≡ (if is_plain byte then byte else 0x5c) ∷ hex_digit_of (byte / 16) ∷ hex_digit_of (byte % 16) ∷ (if is_plain byte then 1 else 3) ∷ [] }
+    ensures { result
+        ≡ (if is_plain_byte byte then byte else 0x5c) ∷ hex_digit_of (byte / 16) ∷ hex_digit_of (byte % 16)
+        ∷ (if is_plain_byte byte then 1 else 3) ∷ [] }
 {
     escapes[byte as usize]
 }

@@ -40,7 +40,9 @@ fn write_pair(n: u32, piece: &mut [u8; LONG], at: usize)
 fn write_four(n: u32, piece: &mut [u8; LONG], at: usize)
     requires small { n < 10000 }
     requires room { at + 4 ≤ 32 }
-    ensures { drop at piece.new ≡ (48 + n / 100 / 10) ∷ (48 + n / 100 % 10) ∷ (48 + n % 100 / 10) ∷ (48 + n % 100 % 10) ∷ drop (at + 4) piece.old }
+    ensures { drop at piece.new
+        ≡ (48 + n / 100 / 10) ∷ (48 + n / 100 % 10) ∷ (48 + n % 100 / 10) ∷ (48 + n % 100 % 10)
+        ∷ drop (at + 4) piece.old }
 {
     write_pair(n % 100, piece, at + 2);
     write_pair(n / 100, piece, at);
@@ -85,7 +87,8 @@ fn write_before(byte: u8, piece: &mut [u8; LONG], at: usize) -> usize
 /// The line of an int.
 #[inline(always)]
 pub fn put_int_line(n: i32, out: &mut Vec<u8>) -> Result<(), NoMemory>
-    ensures { PutsWhole out.old.items out.new.items result (codes "int" ++ (0x20 ∷ (signed_decimal n ++ 0x0a ∷ []))) }
+    ensures { PutsWhole out.old.items out.new.items result
+        (codes "int" ++ (0x20 ∷ (signed_decimal n ++ 0x0a ∷ []))) }
 {
     let mut piece = LINE;
     let at = write_signed(n, &mut piece);
@@ -99,7 +102,8 @@ pub fn put_int_line(n: i32, out: &mut Vec<u8>) -> Result<(), NoMemory>
 /// The line of a uint.
 #[inline(always)]
 pub fn put_uint_line(n: u32, out: &mut Vec<u8>) -> Result<(), NoMemory>
-    ensures { PutsWhole out.old.items out.new.items result (codes "uint" ++ (0x20 ∷ (decimal n ++ 0x0a ∷ []))) }
+    ensures { PutsWhole out.old.items out.new.items result
+        (codes "uint" ++ (0x20 ∷ (decimal n ++ 0x0a ∷ []))) }
 {
     let mut piece = LINE;
     let at = write_number(n, &mut piece);

@@ -2,9 +2,9 @@
 ghost use Rattle.std.specs.Prelude.{◌≡◌, ◌∷◌, ◌++◌, ◌<◌, ◌≤◌, ◌+◌, ◌/◌, ◌%◌, [], ℕ, IfOk, IsTrue, decimal, drop, length, take, vec_capacity, vec_len};
 ghost use Rattle.std.specs.Fmt.{signed_decimal};
 ghost use Rattle.std.specs.List.{flat_map};
-ghost use Rattle.abc_base.specs.Escapes.{escaped, hex_digit as hex_digit_of, is_plain as is_plain_byte};
+ghost use Rattle.abc_base.specs.Escapes.{with_escapes, hex_digit as hex_digit_of, is_plain_byte};
 ghost use Rattle.abc_text_writer.specs.declared.tokens.TheConstants.{PAIRS as all_pairs};
-ghost use Rattle.abc_text_lines.specs.Listing.{hex_of, label_of};
+ghost use Rattle.abc_text_lines.specs.Listing.{listing_hex, label_of};
 ghost use Rattle.abc_varint.specs.Puts.{Puts, PutsWhole};
 
 use crate::escaping::{PIECE, hex_digit, show_at};
@@ -217,7 +217,8 @@ fn is_plain(byte: u8) -> bool
 fn made_room(piece: &[u8; PIECE], at: usize, out: &mut Vec<u8>) -> Result<usize, NoMemory>
     requires { at ≤ 64 }
     ensures room { IfOk result (λ n. n + 4 ≤ 64) }
-    ensures bytes { IfOk result (λ n. out.new.items ++ take n piece.now ≡ out.old.items ++ take at piece.now) }
+    ensures bytes { IfOk result
+        (λ n. out.new.items ++ take n piece.now ≡ out.old.items ++ take at piece.now) }
     ensures front { take (length out.old.items) out.new.items ≡ out.old.items }
 {
     if at + 4 <= PIECE {
@@ -228,9 +229,9 @@ fn made_room(piece: &[u8; PIECE], at: usize, out: &mut Vec<u8>) -> Result<usize,
 }
 
 /// Whether the bytes are shown as they are.
-#[tactic(auto, unfolding(abc_base::specs::Escapes::escaped))]
+#[tactic(auto, unfolding(abc_base::specs::Escapes::with_escapes))]
 fn are_plain(bytes: &[u8]) -> bool
-    ensures { IsTrue result → escaped bytes.now ≡ bytes.now }
+    ensures { IsTrue result → with_escapes bytes.now ≡ bytes.now }
 {
     for byte in bytes {
         if !is_plain(*byte) {
@@ -244,7 +245,7 @@ fn are_plain(bytes: &[u8]) -> bool
 #[inline(always)]
 #[tactic(auto, using(abc_varint::proofs::Putting::stays_whole))]
 pub fn put_escaped(bytes: &[u8], out: &mut Vec<u8>) -> Result<(), NoMemory>
-    ensures { Puts out.old.items out.new.items result (escaped bytes.now) }
+    ensures { Puts out.old.items out.new.items result (with_escapes bytes.now) }
 {
     if are_plain(bytes) {
         put(bytes, out)?;
@@ -255,9 +256,9 @@ pub fn put_escaped(bytes: &[u8], out: &mut Vec<u8>) -> Result<(), NoMemory>
 
 /// Bytes as they are shown, one by one: some of them in a piece, before they are appended.
 #[inline(never)]
-#[tactic(auto, unfolding(abc_base::specs::Escapes::escaped), using(abc_varint::proofs::Putting::stays, abc_varint::proofs::Putting::stays_whole))]
+#[tactic(auto, unfolding(abc_base::specs::Escapes::with_escapes), using(abc_varint::proofs::Putting::stays, abc_varint::proofs::Putting::stays_whole))]
 fn put_each_escaped(bytes: &[u8], out: &mut Vec<u8>) -> Result<(), NoMemory>
-    ensures { Puts out.old.items out.new.items result (escaped bytes.now) }
+    ensures { Puts out.old.items out.new.items result (with_escapes bytes.now) }
 {
     let mut piece = [0; PIECE];
     let mut at = 0;
@@ -272,7 +273,7 @@ fn put_each_escaped(bytes: &[u8], out: &mut Vec<u8>) -> Result<(), NoMemory>
 /// A space and a quoted text.
 #[tactic(auto, using(abc_varint::proofs::Putting::stays, std::proofs::Common::append_assoc))]
 pub fn put_quoted(text: &[u8], out: &mut Vec<u8>) -> Result<(), NoMemory>
-    ensures { Puts out.old.items out.new.items result (0x20 ∷ 0x22 ∷ (escaped text.now ++ 0x22 ∷ [])) }
+    ensures { Puts out.old.items out.new.items result (0x20 ∷ 0x22 ∷ (with_escapes text.now ++ 0x22 ∷ [])) }
 {
     put(b" \"", out)?;
     put_escaped(text, out)?;
@@ -281,7 +282,8 @@ pub fn put_quoted(text: &[u8], out: &mut Vec<u8>) -> Result<(), NoMemory>
 }
 
 fn put_hex(byte: u8, out: &mut Vec<u8>) -> Result<(), NoMemory>
-    ensures { PutsWhole out.old.items out.new.items result (hex_digit_of (byte / 16) ∷ hex_digit_of (byte % 16) ∷ []) }
+    ensures { PutsWhole out.old.items out.new.items result
+        (hex_digit_of (byte / 16) ∷ hex_digit_of (byte % 16) ∷ []) }
 {
     put(&[hex_digit(byte / 16), hex_digit(byte % 16)], out)
 }
@@ -289,7 +291,7 @@ fn put_hex(byte: u8, out: &mut Vec<u8>) -> Result<(), NoMemory>
 /// Each byte as two hexadecimal digits.
 #[tactic(auto, using(abc_varint::proofs::Putting::stays, abc_varint::proofs::Putting::stays_whole))]
 pub fn put_hex_bytes(bytes: &[u8], out: &mut Vec<u8>) -> Result<(), NoMemory>
-    ensures { Puts out.old.items out.new.items result (hex_of bytes.now) }
+    ensures { Puts out.old.items out.new.items result (listing_hex bytes.now) }
 {
     for byte in bytes {
         put_hex(*byte, out)?;

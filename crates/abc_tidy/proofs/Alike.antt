@@ -5,7 +5,7 @@ use Rattle.abc_base_trees.specs.Trees.{Tree, Leaf, Apply, head_eq, tree_eq}
 use Rattle.abc_base_trees.specs.Visits.{is_met, visit, visit_all, visit_parts}
 use Rattle.abc_base_trees.proofs.TreeLaws.{trees_refl, trees_same}
 use Rattle.abc_tidy.specs.Free.{root}
-use Rattle.abc_base_trees.specs.Orders.{In}
+use Rattle.abc_base_trees.specs.Orders.{StandsIn}
 use Rattle.abc_tidy.proofs.Lists.{Pairs, pairs_append, pairs_if}
 
 -- two trees of one form, whose heads are related

@@ -2,11 +2,11 @@
 use Rattle.std.proofs.Common.{◌≡◌, ℕ, zero, suc, ◌+◌, ◌-◌, ◌<◌, ◌≤◌, ◌⊎◌, inl, inr, List, [], ◌∷◌, ◌++◌, map, length, get_or, drop, flat_map, nat_eq, Bool, true, false, if◌then◌else◌, Some, None, count_by, take, unwrap_or, eqb-true, eq-eqb, refl, sym, ap, subst, ◌∙◌, arith, true≢false}
 use Rattle.std.proofs.lemmas.Bool.{cases_lt}
 use Rattle.std.proofs.lemmas.List.{length-map, map-append}
-use Rattle.abc_base_graphs.specs.Graph.{targets}
+use Rattle.abc_base_graphs.specs.Graph.{leads_to}
 use Rattle.abc_base_graphs.specs.Index.{first_from}
 use Rattle.abc_tidy_refs.specs.declared.nodes.Counts.{Counts}
 use Rattle.abc_tidy_refs.specs.declared.refs.Ref.{Ref}
-use Rattle.abc_tidy_refs.specs.Nodes.{counts_of, node_of, number_in, set_node}
+use Rattle.abc_tidy_refs.specs.Nodes.{counts_of, node_of, new_index, set_node}
 use Rattle.abc_tidy_refs.specs.Refs.{file_refs, ref}
 use Rattle.abc_tidy_refs.specs.Renumbered.{beside, new_file}
 use Rattle.abc_file_types.specs.declared.names.Multiname.{Multiname}
@@ -19,20 +19,20 @@ use Rattle.abc_file_types.specs.declared.opcodes.Pool.TheVariants as pools
 use Rattle.abc_file_types.specs.declared.tables.Abc.{Abc}
 use Rattle.abc_file_types.specs.Pools.{empty, namespace_code}
 use Rattle.abc_base_trees.specs.declared.heads.Head.{Head}
-use Rattle.abc_base_trees.specs.Trees.{Tree, Leaf, Apply, AreTrees, NoTrees, OneMore, Grows, Done, More, IsTree, head}
+use Rattle.abc_base_trees.specs.Trees.{Tree, Leaf, Apply, AreTrees, NoTrees, OneMore, GrowsTrees, Done, More, IsTree, head_of_tree}
 use Rattle.abc_base_trees.specs.Visits.{visit_all}
 use Rattle.abc_base_trees.proofs.TreeLaws.{leaf_same, one_tree}
-use Rattle.abc_tidy_entries.specs.Entries.{graph_of, heads_of, name_head, place_among, space_value}
-use Rattle.abc_tidy_entries.specs.Rules.{IsThere, names_pool, pool_size}
-use Rattle.abc_tidy_entries.specs.Visited.{IsNamed, IsTidiedValue, number_at, pool_index, roots_of}
-use Rattle.abc_tidy.specs.Free.{Free, IsFree, no_index, private_place, privates_among, root}
-use Rattle.abc_tidy.specs.Things.{AreThings, Entry, NoEntry, IntEntry, UIntEntry, DoubleEntry, TextEntry, SpaceEntry, SetEntry, NameEntry, Label, Zero, Int, UInt, Double, Text, Space, Set, Name, Thing, entries, entry_at, kind_of, label, parts}
+use Rattle.abc_tidy_entries.specs.Entries.{graph_of, heads_of, name_head, place_among, space_told}
+use Rattle.abc_tidy_entries.specs.Rules.{IsEntryThere, names_pool, pool_size}
+use Rattle.abc_tidy_entries.specs.Visited.{IsNamed, IsTidiedValue, number_of_node, pool_of_node, roots_of}
+use Rattle.abc_tidy.specs.Free.{Free, IsFreeForm, no_index, private_place, privates_among, root}
+use Rattle.abc_tidy.specs.Things.{AreThings, Entry, NoEntry, IntEntry, UIntEntry, DoubleEntry, TextEntry, SpaceEntry, SetEntry, NameEntry, EntryLabel, Zero, Int, UInt, Double, Text, Space, Set, Name, Thing, entries, entry_at, kind_of_multiname, label_of_entry, parts}
 use Rattle.abc_tidy.proofs.Alike.{Alike, OneToOne, all_alike, alike_one, root_alike, tree_parts}
 use Rattle.abc_tidy.proofs.Closed.{node_parts, node_root, parts_met, rooted_met}
 use Rattle.abc_tidy.proofs.Distinct.{Distinct, all_distinct, distinct_at, one_number, some_number}
 use Rattle.abc_tidy.proofs.Entered.{entry_head, head_at, targets_at}
 use Rattle.abc_tidy.proofs.Labelled.{Fine, FineSpace, head_found, head_of, label_found, label_of}
-use Rattle.abc_base_trees.specs.Orders.{In}
+use Rattle.abc_base_trees.specs.Orders.{StandsIn}
 use Rattle.abc_tidy.proofs.Lists.{Pairs, get_map, in_at, in_cases, in_left, in_place, in_right, pairs_append, pairs_at, pairs_many, same_maps, two_maps}
 use Rattle.abc_tidy.proofs.Located.{Located, AtNone, AtInt, AtUInt, AtDouble, AtText, AtSpace, AtSet, AtName, locate}
 use Rattle.abc_tidy.proofs.Moved.{doubles_moved, doubles_sized, entry_made, few, ints_moved, ints_sized, names_moved, names_sized, namespaces_moved, namespaces_sized, no_row, node_for, put, row_pools, sets_moved, size_for, strings_moved, strings_sized, uints_moved, uints_sized}
@@ -65,14 +65,14 @@ unfolding collect
 collect_pairs R f g k zero h = tt
 collect_pairs R f g k (suc n) h = pairs_append R (f k) (g k) (collect f (suc k) n) (collect g (suc k) n) (h k (omega arith)) (collect_pairs R f g (suc k) n (λ i lt. h i (omega arith)))
 
-in_collect : {B : Type 0} (g : ℕ → List B) (k n i : ℕ) (y : B) → k ≤ i → i < k + n → In y (g i) → In y (collect g k n)
+in_collect : {B : Type 0} (g : ℕ → List B) (k n i : ℕ) (y : B) → k ≤ i → i < k + n → StandsIn y (g i) → StandsIn y (collect g k n)
 unfolding collect
 in_collect g k zero i y le lt h = let no : ⊥ = omega (arith, le, lt) in absurd no
 in_collect g k (suc n) i y le lt h = go (cases_lt k i) (λ l. in_collect g (suc k) n i y l (omega (arith, lt)) h)
   where
-    go : (k < i) ⊎ (i ≤ k) → (suc k ≤ i → In y (collect g (suc k) n)) → In y (g k ++ collect g (suc k) n)
+    go : (k < i) ⊎ (i ≤ k) → (suc k ≤ i → StandsIn y (collect g (suc k) n)) → StandsIn y (g k ++ collect g (suc k) n)
     go (inl l) rest = in_right (g k) (collect g (suc k) n) y (rest (omega arith))
-    go (inr l) rest = let q : i ≡ k = omega arith in in_left (g k) (collect g (suc k) n) y (subst (λ j. In y (g j)) q h)
+    go (inr l) rest = let q : i ≡ k = omega arith in in_left (g k) (collect g (suc k) n) y (subst (λ j. StandsIn y (g j)) q h)
 
 -- the places of two values among values that equal them alike
 place_pairs : (a b : ℕ) (xs ys : List ℕ) (n : ℕ) → Pairs (λ x y. nat_eq a x ≡ nat_eq b y) xs ys → first_from (nat_eq a) n xs ≡ first_from (nat_eq b) n ys
@@ -91,7 +91,7 @@ same_bool false false f g = refl
 
 -- ---- trees that grow
 
-grows_push : {heads : List Head} {graph : List (List ℕ)} {xs : List ℕ} {t u : Tree} (x : ℕ) {p : Tree} → Grows heads graph xs t u → IsTree heads graph x p → Grows heads graph (xs ++ x ∷ []) t (Apply u p)
+grows_push : {heads : List Head} {graph : List (List ℕ)} {xs : List ℕ} {t u : Tree} (x : ℕ) {p : Tree} → GrowsTrees heads graph xs t u → IsTree heads graph x p → GrowsTrees heads graph (xs ++ x ∷ []) t (Apply u p)
 grows_push x Done p = More p Done
 grows_push x (More q g) p = More q (grows_push x g p)
 
@@ -110,7 +110,7 @@ pushed heads graph ys0 (t ∷ ts) p (OneMore {x = y} {xs = ys} g are) =
 
 -- ---- Private namespaces
 
-private_space : (k : NsKind) (j : ℕ) → nat_eq (namespace_code k) (namespace_code spaces.Private) ≡ true → space_value k j ≡ j
+private_space : (k : NsKind) (j : ℕ) → nat_eq (namespace_code k) (namespace_code spaces.Private) ≡ true → space_told k j ≡ j
 private_space spaces.Private j e = refl
 private_space spaces.Namespace j e = absurd (true≢false (sym e))
 private_space spaces.Package j e = absurd (true≢false (sym e))
@@ -146,7 +146,7 @@ spot v x e (AtSpace {z = z} j at lt is) h = at ∙ ap (λ k. length v.ints + len
 spot v x e (AtSet j at lt is) h = absurd (true≢false (sym h))
 spot v x e (AtName {z = z} j at lt is) h = absurd (no_private z h)
 
-private_pool : (v : Abc) (ps : List ℕ) (e : Entry) → IsPrivate (entry_head v e) → label_pool (label ps e) ≡ 5
+private_pool : (v : Abc) (ps : List ℕ) (e : Entry) → IsPrivate (entry_head v e) → label_pool (label_of_entry ps e) ≡ 5
 private_pool v ps NoEntry h = absurd (true≢false (sym h))
 private_pool v ps (IntEntry x) h = absurd (true≢false (sym h))
 private_pool v ps (UIntEntry x) h = absurd (true≢false (sym h))
@@ -157,7 +157,7 @@ private_pool v ps (SetEntry x) h = absurd (true≢false (sym h))
 private_pool v ps (NameEntry m) h = absurd (no_private m h)
 
 -- the label of an entry that a row makes
-space_back : (ps qs : List ℕ) (k : NsKind) (p n : ℕ) → (nat_eq (namespace_code k) (namespace_code spaces.Private) ≡ true → place_among nat_eq qs n ≡ place_among nat_eq ps (space_value k p)) → Space k (space_value k (place_among nat_eq qs n)) ≡ Space k (space_value k (place_among nat_eq ps p))
+space_back : (ps qs : List ℕ) (k : NsKind) (p n : ℕ) → (nat_eq (namespace_code k) (namespace_code spaces.Private) ≡ true → place_among nat_eq qs n ≡ place_among nat_eq ps (space_told k p)) → Space k (space_told k (place_among nat_eq qs n)) ≡ Space k (space_told k (place_among nat_eq ps p))
 space_back ps qs spaces.Private p n h = ap (Space spaces.Private) (h refl)
 space_back ps qs spaces.Namespace p n h = refl
 space_back ps qs spaces.Package p n h = refl
@@ -166,7 +166,7 @@ space_back ps qs spaces.Protected p n h = refl
 space_back ps qs spaces.Explicit p n h = refl
 space_back ps qs spaces.StaticProtected p n h = refl
 
-name_back : (m : Multiname) (ns : List ℕ) → kind_of (made_name (kind_of m) ns) ≡ kind_of m
+name_back : (m : Multiname) (ns : List ℕ) → kind_of_multiname (made_name (kind_of_multiname m) ns) ≡ kind_of_multiname m
 name_back (names.QName attr n i) ns = refl
 name_back (names.Rt attr i) ns = refl
 name_back (names.RtL attr) ns = refl
@@ -174,7 +174,7 @@ name_back (names.Multi attr i s) ns = refl
 name_back (names.MultiL attr s) ns = refl
 name_back (names.TypeName base params) ns = refl
 
-label_back : (v : Abc) (ps qs ns : List ℕ) (n : ℕ) (e : Entry) → (IsPrivate (entry_head v e) → place_among nat_eq qs (n - 1) ≡ place_among nat_eq ps (entry_head v e).value) → label qs (entry_made (label ps e) ns n) ≡ label ps e
+label_back : (v : Abc) (ps qs ns : List ℕ) (n : ℕ) (e : Entry) → (IsPrivate (entry_head v e) → place_among nat_eq qs (n - 1) ≡ place_among nat_eq ps (entry_head v e).value) → label_of_entry qs (entry_made (label_of_entry ps e) ns n) ≡ label_of_entry ps e
 label_back v ps qs ns n NoEntry h = refl
 label_back v ps qs ns n (IntEntry x) h = refl
 label_back v ps qs ns n (UIntEntry x) h = refl
@@ -184,7 +184,7 @@ label_back v ps qs ns n (SpaceEntry p x) h = space_back ps qs x.kind p (n - 1) h
 label_back v ps qs ns n (SetEntry x) h = refl
 label_back v ps qs ns n (NameEntry m) h = ap Name (name_back m ns)
 
-fine_space_back : (qs : List ℕ) (k : NsKind) (n : ℕ) → (nat_eq (namespace_code k) (namespace_code spaces.Private) ≡ true → In n qs) → FineSpace qs k n
+fine_space_back : (qs : List ℕ) (k : NsKind) (n : ℕ) → (nat_eq (namespace_code k) (namespace_code spaces.Private) ≡ true → StandsIn n qs) → FineSpace qs k n
 fine_space_back qs spaces.Private n h = h refl
 fine_space_back qs spaces.Namespace n h = tt
 fine_space_back qs spaces.Package n h = tt
@@ -193,7 +193,7 @@ fine_space_back qs spaces.Protected n h = tt
 fine_space_back qs spaces.Explicit n h = tt
 fine_space_back qs spaces.StaticProtected n h = tt
 
-fine_back : (v : Abc) (ps qs ns : List ℕ) (n : ℕ) (e : Entry) → (IsPrivate (entry_head v e) → In (n - 1) qs) → Fine qs (entry_made (label ps e) ns n)
+fine_back : (v : Abc) (ps qs ns : List ℕ) (n : ℕ) (e : Entry) → (IsPrivate (entry_head v e) → StandsIn (n - 1) qs) → Fine qs (entry_made (label_of_entry ps e) ns n)
 fine_back v ps qs ns n NoEntry h = tt
 fine_back v ps qs ns n (IntEntry x) h = tt
 fine_back v ps qs ns n (UIntEntry x) h = tt
@@ -206,7 +206,7 @@ fine_back v ps qs ns n (NameEntry m) h = tt
 abbrev place_if : Head → ℕ → List ℕ
 place_if h n = if nat_eq h.kind (namespace_code spaces.Private) then n ∷ [] else []
 
-place_space : (k : NsKind) (p n : ℕ) → place_if (record { kind = namespace_code k; value = space_value k n }) (space_value k n) ≡ place_if (record { kind = namespace_code k; value = space_value k p }) n
+place_space : (k : NsKind) (p n : ℕ) → place_if (record { kind = namespace_code k; value = space_told k n }) (space_told k n) ≡ place_if (record { kind = namespace_code k; value = space_told k p }) n
 place_space spaces.Private p n = refl
 place_space spaces.Namespace p n = refl
 place_space spaces.Package p n = refl
@@ -229,7 +229,7 @@ place_name (names.MultiL false s) a b = refl
 place_name (names.TypeName base params) a b = refl
 
 -- the place of a Private namespace that a row makes
-place_back : (v T : Abc) (ps ns : List ℕ) (n : ℕ) (e : Entry) → place_if (entry_head T (entry_made (label ps e) ns n)) (entry_head T (entry_made (label ps e) ns n)).value ≡ place_if (entry_head v e) (n - 1)
+place_back : (v T : Abc) (ps ns : List ℕ) (n : ℕ) (e : Entry) → place_if (entry_head T (entry_made (label_of_entry ps e) ns n)) (entry_head T (entry_made (label_of_entry ps e) ns n)).value ≡ place_if (entry_head v e) (n - 1)
 place_back v T ps ns n NoEntry = refl
 place_back v T ps ns n (IntEntry x) = refl
 place_back v T ps ns n (UIntEntry x) = refl
@@ -237,7 +237,7 @@ place_back v T ps ns n (DoubleEntry x) = refl
 place_back v T ps ns n (TextEntry x) = refl
 place_back v T ps ns n (SpaceEntry p x) = place_space x.kind p (n - 1)
 place_back v T ps ns n (SetEntry x) = refl
-place_back v T ps ns n (NameEntry m) = place_name (made_name (kind_of m) ns) 0 0 ∙ sym (place_name m (n - 1) 0)
+place_back v T ps ns n (NameEntry m) = place_name (made_name (kind_of_multiname m) ns) 0 0 ∙ sym (place_name m (n - 1) 0)
 
 one_or_none : {A B : Type 0} (R : A → B → Type 0) (b : Bool) (x : A) (y : B) → (b ≡ true → R x y) → Pairs R (if b then x ∷ [] else []) (if b then y ∷ [] else [])
 one_or_none R true x y h = (h refl, tt)
@@ -262,7 +262,7 @@ module _ (v t : Abc) (f : IsTidiedValue v t) where
   rows = map (row_of v ps f.numbers) f.seen
 
   abbrev T : Abc
-  T = beside (new_file (number_in (with_numbers c f.numbers)) v) (pools_of rows)
+  T = beside (new_file (new_index (with_numbers c f.numbers)) v) (pools_of rows)
 
   abbrev d : Counts
   d = counts_of T
@@ -275,16 +275,16 @@ module _ (v t : Abc) (f : IsTidiedValue v t) where
   place i = number_among_pools (row_pools rows) i
 
   abbrev node : ℕ → ℕ
-  node i = node_for d (label ps (entry i)) (place i)
+  node i = node_for d (label_of_entry ps (entry i)) (place i)
 
   abbrev moved : ℕ → ℕ
-  moved y = node_for d (label ps (entry_at v y)) (num y)
+  moved y = node_for d (label_of_entry ps (entry_at v y)) (num y)
 
   abbrev made : ℕ → Entry
-  made i = entry_made (label ps (entry i)) (map num (parts c (entry i))) (place i)
+  made i = entry_made (label_of_entry ps (entry i)) (map num (parts c (entry i))) (place i)
 
   is_T : t ≡ T
-  is_T = f.is ∙ ap (beside (new_file (number_in (with_numbers c f.numbers)) v)) (pools_are v f.numbers ps f.seen (within v t f))
+  is_T = f.is ∙ ap (beside (new_file (new_index (with_numbers c f.numbers)) v)) (pools_are v f.numbers ps f.seen (within v t f))
 
   many_rows : length rows ≡ length f.seen
   many_rows = length-map f.seen (row_of v ps f.numbers)
@@ -296,20 +296,20 @@ module _ (v t : Abc) (f : IsTidiedValue v t) where
   row_at i = get_map (row_of v ps f.numbers) f.seen i 0 no_row refl
 
   entry_there : (i : ℕ) → i < length f.seen → entry_at T (node i) ≡ made i
-  entry_there i lt = put T rows i (label ps (entry i)) (map num (parts c (entry i))) refl refl refl refl refl refl refl (omega (arith, lt, many_rows)) (row_at i)
+  entry_there i lt = put T rows i (label_of_entry ps (entry i)) (map num (parts c (entry i))) refl refl refl refl refl refl refl (omega (arith, lt, many_rows)) (row_at i)
 
-  pools_rows : map (pool_index c) f.seen ≡ row_pools rows
+  pools_rows : map (pool_of_node c) f.seen ≡ row_pools rows
   pools_rows =
       pools_by_labels v ps f.seen (within v t f)
-      ∙ same_maps label_pool (λ x. label ps (entry_at v x)) (λ (r : Row). label_pool r.0) (row_of v ps f.numbers) f.seen (λ x. refl)
+      ∙ same_maps label_pool (λ x. label_of_entry ps (entry_at v x)) (λ (r : Row). label_pool r.0) (row_of v ps f.numbers) f.seen (λ x. refl)
 
-  place_is : (i : ℕ) → number_at c f.seen i ≡ place i
+  place_is : (i : ℕ) → number_of_node c f.seen i ≡ place i
   place_is i = number_by_pools c f.seen i ∙ ap (λ l. number_among_pools l i) pools_rows
 
   tree_at : (i : ℕ) (a : Tree) → i < length f.seen → IsTree (heads_of v) (graph_of v) (get_or f.seen i 0) (get_or S i a)
   tree_at i a lt = trees_at (heads_of v) (graph_of v) f.seen S i a f.visited.order lt
 
-  met_at : (i : ℕ) (a : Tree) → i < length f.seen → In (get_or S i a) S
+  met_at : (i : ℕ) (a : Tree) → i < length f.seen → StandsIn (get_or S i a) S
   met_at i a lt = in_at S i a (omega (arith, lt, many_met))
 
   root_at : (i : ℕ) (a : Tree) → i < length f.seen → root (get_or S i a) ≡ entry_head v (entry i)
@@ -326,31 +326,31 @@ module _ (v t : Abc) (f : IsTidiedValue v t) where
     is : get_or S at a ≡ a
     here : IsTree (heads_of v) (graph_of v) (get_or f.seen at 0) a
     number_is : num y ≡ place at
-    labelled : label ps (entry_at v y) ≡ label ps (entry at)
+    labelled : label_of_entry ps (entry_at v y) ≡ label_of_entry ps (entry at)
     moves : moved y ≡ node at
 
-  found : (y : ℕ) (a : Tree) → IsNamed v f.seen y → IsTree (heads_of v) (graph_of v) y a → In a S → Found y a
+  found : (y : ℕ) (a : Tree) → IsNamed v f.seen y → IsTree (heads_of v) (graph_of v) y a → StandsIn a S → Found y a
   found y a n g h =
       let p = in_place S a a h in
       let i = p.0 in
       let lt : i < length f.seen = omega (arith, p.1, many_met) in
       let here : IsTree (heads_of v) (graph_of v) (get_or f.seen i 0) a = subst (IsTree (heads_of v) (graph_of v) (get_or f.seen i 0)) p.2 (tree_at i a lt) in
       let is : num y ≡ place i = f.numbered.numbers_of i y a lt n here g ∙ place_is i in
-      let same : label ps (entry_at v y) ≡ label ps (entry i) = sym (label_of_tree y a g) ∙ label_of_tree (get_or f.seen i 0) a here in
+      let same : label_of_entry ps (entry_at v y) ≡ label_of_entry ps (entry i) = sym (label_of_tree y a g) ∙ label_of_tree (get_or f.seen i 0) a here in
       record { at = i; lt = lt; is = p.2; here = here; number_is = is; labelled = same; moves = λ j. node_for d (same j) (is j) }
     where
-      label_of_tree : (x : ℕ) (b : Tree) → IsTree (heads_of v) (graph_of v) x b → label_of v ps (root b) ≡ label ps (entry_at v x)
+      label_of_tree : (x : ℕ) (b : Tree) → IsTree (heads_of v) (graph_of v) x b → label_of v ps (root b) ≡ label_of_entry ps (entry_at v x)
       label_of_tree x b k = ap (label_of v ps) (node_root (heads_of v) (graph_of v) x b k) ∙ label_at v ps x
 
   -- the number of node 0 is 0
-  zero_number : (a : Tree) → IsNamed v f.seen 0 → IsTree (heads_of v) (graph_of v) 0 a → In a S → num 0 ≡ 0
+  zero_number : (a : Tree) → IsNamed v f.seen 0 → IsTree (heads_of v) (graph_of v) 0 a → StandsIn a S → num 0 ≡ 0
   zero_number a n g h =
       let r = found 0 a n g h in
       let zero_pool : get_or (row_pools rows) r.at 0 ≡ 0 =
       get_map (λ (r : Row). label_pool r.0) rows r.at no_row 0 refl ∙ ap (λ (r : Row). label_pool r.0) (row_at r.at) ∙ ap label_pool (zero_label r.at r.here) in
       r.number_is ∙ ap (λ p. if nat_eq p 0 then 0 else count_by (λ q. nat_eq q p) (take (r.at + 1) (row_pools rows))) zero_pool
     where
-      zero_label : (i : ℕ) → IsTree (heads_of v) (graph_of v) (get_or f.seen i 0) a → label ps (entry i) ≡ Zero
+      zero_label : (i : ℕ) → IsTree (heads_of v) (graph_of v) (get_or f.seen i 0) a → label_of_entry ps (entry i) ≡ Zero
       zero_label i k =
           sym (ap (label_of v ps) (node_root (heads_of v) (graph_of v) (get_or f.seen i 0) a k) ∙ label_at v ps (get_or f.seen i 0))
           ∙ ap (label_of v ps) (node_root (heads_of v) (graph_of v) 0 a g) ∙ label_at v ps 0
@@ -358,7 +358,7 @@ module _ (v t : Abc) (f : IsTidiedValue v t) where
   -- ---- the nodes that a moved entry leads to
 
   abbrev ZeroAmong : List ℕ → Type 0
-  ZeroAmong ys = (y : ℕ) → In y ys → y ≡ 0 → num 0 ≡ 0
+  ZeroAmong ys = (y : ℕ) → StandsIn y ys → y ≡ 0 → num 0 ≡ 0
 
   spaces_moved : (is : List ℕ) → ZeroAmong (map (node_of c pools.Space) is) → map (node_of d pools.Space) (map num (map (node_of c pools.Space) is)) ≡ map moved (map (node_of c pools.Space) is)
   spaces_moved [] z = refl
@@ -374,7 +374,7 @@ module _ (v t : Abc) (f : IsTidiedValue v t) where
       let rest = params_moved is (λ y h. z y (inr h)) in
       λ j. e j ∷ rest j
 
-  name_moved : (m : Multiname) (n : ℕ) → ZeroAmong (parts c (NameEntry m)) → parts d (entry_made (label ps (NameEntry m)) (map num (parts c (NameEntry m))) n) ≡ map moved (parts c (NameEntry m))
+  name_moved : (m : Multiname) (n : ℕ) → ZeroAmong (parts c (NameEntry m)) → parts d (entry_made (label_of_entry ps (NameEntry m)) (map num (parts c (NameEntry m))) n) ≡ map moved (parts c (NameEntry m))
   name_moved (names.QName attr ns i) n z =
       let e = namespaces_moved v d ps num ns (λ q. z (node_of c pools.Space ns) (inl refl) q) in
       let k = strings_moved v d ps num i (λ q. z (node_of c pools.Text i) (inr (inl refl)) q) in
@@ -391,7 +391,7 @@ module _ (v t : Abc) (f : IsTidiedValue v t) where
       let k = params_moved params (λ y h. z y (inr h)) in
       λ j. e j ∷ k j
 
-  parts_moved : (e : Entry) (n : ℕ) → ZeroAmong (parts c e) → parts d (entry_made (label ps e) (map num (parts c e)) n) ≡ map moved (parts c e)
+  parts_moved : (e : Entry) (n : ℕ) → ZeroAmong (parts c e) → parts d (entry_made (label_of_entry ps e) (map num (parts c e)) n) ≡ map moved (parts c e)
   parts_moved NoEntry n z = refl
   parts_moved (IntEntry x) n z = refl
   parts_moved (UIntEntry x) n z = refl
@@ -402,20 +402,20 @@ module _ (v t : Abc) (f : IsTidiedValue v t) where
   parts_moved (NameEntry m) n z = name_moved m n z
 
   -- nodes that are named, whose trees were met, have no zero but of number 0
-  zero_among : (ys : List ℕ) (ts : List Tree) → AreTrees (heads_of v) (graph_of v) ys ts → ((y : ℕ) → In y ys → IsNamed v f.seen y) → ((a : Tree) → In a ts → In a S) → ZeroAmong ys
+  zero_among : (ys : List ℕ) (ts : List Tree) → AreTrees (heads_of v) (graph_of v) ys ts → ((y : ℕ) → StandsIn y ys → IsNamed v f.seen y) → ((a : Tree) → StandsIn a ts → StandsIn a S) → ZeroAmong ys
   zero_among ys ts NoTrees n h y k q = absurd k
   zero_among ys0 ts0 (OneMore {x = x} {t = a} g are) n h y (inl e) q =
       let z : x ≡ 0 = sym e ∙ q in
       zero_number a (subst (IsNamed v f.seen) z (n x (inl refl))) (subst (λ w. IsTree (heads_of v) (graph_of v) w a) z g) (h a (inl refl))
   zero_among ys0 ts0 (OneMore {xs = ys} {ts = ts} g are) n h y (inr k) q = zero_among ys ts are (λ w l. n w (inr l)) (λ b l. h b (inr l)) y k q
 
-  named_parts : (i : ℕ) → i < length f.seen → (y : ℕ) → In y (targets (graph_of v) (get_or f.seen i 0)) → IsNamed v f.seen y
+  named_parts : (i : ℕ) → i < length f.seen → (y : ℕ) → StandsIn y (leads_to (graph_of v) (get_or f.seen i 0)) → IsNamed v f.seen y
   named_parts i lt y h = named_part v f.seen (get_or f.seen i 0) y (in_at f.seen i 0 lt) h
 
-  targets_there : (i : ℕ) (a : Tree) → i < length f.seen → IsTree (heads_of v) (graph_of v) (get_or f.seen i 0) a → In a S → targets (graph_of T) (node i) ≡ map moved (targets (graph_of v) (get_or f.seen i 0))
+  targets_there : (i : ℕ) (a : Tree) → i < length f.seen → IsTree (heads_of v) (graph_of v) (get_or f.seen i 0) a → StandsIn a S → leads_to (graph_of T) (node i) ≡ map moved (leads_to (graph_of v) (get_or f.seen i 0))
   targets_there i a lt g h =
       targets_at T (node i) ∙ ap (parts d) (entry_there i lt)
-      ∙ parts_moved (entry i) (place i) (subst ZeroAmong (targets_at v (get_or f.seen i 0)) (zero_among (targets (graph_of v) (get_or f.seen i 0)) (tree_parts a) (node_parts (heads_of v) (graph_of v) (get_or f.seen i 0) a g) (named_parts i lt) (λ p k. parts_met f.visited.trees a p h k)))
+      ∙ parts_moved (entry i) (place i) (subst ZeroAmong (targets_at v (get_or f.seen i 0)) (zero_among (leads_to (graph_of v) (get_or f.seen i 0)) (tree_parts a) (node_parts (heads_of v) (graph_of v) (get_or f.seen i 0) a g) (named_parts i lt) (λ p k. parts_met f.visited.trees a p h k)))
       ∙ ap (map moved) (sym (targets_at v (get_or f.seen i 0)))
 
   -- ---- the Private namespaces of the tidied file
@@ -483,7 +483,7 @@ module _ (v t : Abc) (f : IsTidiedValue v t) where
       ∙ ap (λ o. unwrap_or o 0) (place_pairs (root_of i).value (place i - 1) (collect (λ j. private_place (get_or S j none)) 0 (length f.seen)) qs 0
       (collect_pairs (λ x y. nat_eq (root_of i).value x ≡ nat_eq (place i - 1) y) (λ j. private_place (get_or S j none)) new_private 0 (length f.seen) (λ j m. private_pairs i lt e j (omega (arith, m))))))
 
-  labels_back : (i : ℕ) → i < length f.seen → label qs (made i) ≡ label ps (entry i)
+  labels_back : (i : ℕ) → i < length f.seen → label_of_entry qs (made i) ≡ label_of_entry ps (entry i)
   labels_back i lt =
       label_back v ps qs (map num (parts c (entry i))) (place i) (entry i)
       (λ e. subst (λ h. place_among nat_eq qs (place i - 1) ≡ place_among nat_eq ps h.value) (root_at i none lt) (which_same i lt (subst IsPrivate (sym (root_at i none lt)) e)))
@@ -492,8 +492,8 @@ module _ (v t : Abc) (f : IsTidiedValue v t) where
   fine_made i lt =
       fine_back v ps qs (map num (parts c (entry i))) (place i) (entry i) (λ e. here (subst IsPrivate (sym (root_at i none lt)) e))
     where
-      here : IsPrivate (root_of i) → In (place i - 1) qs
-      here e = in_collect new_private 0 (length f.seen) i (place i - 1) (omega arith) (omega (arith, lt)) (subst (In (place i - 1)) (sym (ap (λ b. if b then (place i - 1) ∷ [] else []) e)) (inl refl))
+      here : IsPrivate (root_of i) → StandsIn (place i - 1) qs
+      here e = in_collect new_private 0 (length f.seen) i (place i - 1) (omega arith) (omega (arith, lt)) (subst (StandsIn (place i - 1)) (sym (ap (λ b. if b then (place i - 1) ∷ [] else []) e)) (inl refl))
 
   -- ---- the trees of the tidied file
 
@@ -503,16 +503,16 @@ module _ (v t : Abc) (f : IsTidiedValue v t) where
   one : OneToOne R
   one = twins_one v ps T qs
 
-  twin : (i : ℕ) → i < length f.seen → R (entry_head v (entry i)) (head (heads_of T) (node i))
+  twin : (i : ℕ) → i < length f.seen → R (entry_head v (entry i)) (head_of_tree (heads_of T) (node i))
   twin i lt = (
-    label_found v ps (get_or f.seen i 0) ∙ sym (labels_back i lt) ∙ ap (label qs) (sym (entry_there i lt)) ∙ sym (label_at T qs (node i)),
+    label_found v ps (get_or f.seen i 0) ∙ sym (labels_back i lt) ∙ ap (label_of_entry qs) (sym (entry_there i lt)) ∙ sym (label_at T qs (node i)),
     ap (head_of v ps) (label_found v ps (get_or f.seen i 0)) ∙ head_found v ps (entry i) (fine v S (get_or f.seen i 0) (get_or S i none) (tree_at i none lt) (met_at i none lt)),
     ap (head_of T qs) (label_at T qs (node i)) ∙ head_found T qs (entry_at T (node i)) (subst (Fine qs) (sym (entry_there i lt)) (fine_made i lt)) ∙ sym (head_at T (node i)),
   )
 
   record Copied (a : Tree) (xs : List ℕ) (h : Head) : Type 0 where
     tree : Tree
-    grows : Grows (heads_of T) (graph_of T) xs (Leaf h) tree
+    grows : GrowsTrees (heads_of T) (graph_of T) xs (Leaf h) tree
     alike : Alike R a tree
 
   record NodeCopied (a : Tree) (x : ℕ) : Type 0 where
@@ -521,25 +521,25 @@ module _ (v t : Abc) (f : IsTidiedValue v t) where
     alike : Alike R a tree
 
   abbrev Copies : Tree → Type 0
-  Copies a = (ys : List ℕ) → AreTrees (heads_of v) (graph_of v) ys (tree_parts a) → ((y : ℕ) → In y ys → IsNamed v f.seen y) → ((p : Tree) → In p (tree_parts a) → In p S) → (h : Head) → R (root a) h → Copied a (map moved ys) h
+  Copies a = (ys : List ℕ) → AreTrees (heads_of v) (graph_of v) ys (tree_parts a) → ((y : ℕ) → StandsIn y ys → IsNamed v f.seen y) → ((p : Tree) → StandsIn p (tree_parts a) → StandsIn p S) → (h : Head) → R (root a) h → Copied a (map moved ys) h
 
-  node_copied : (a : Tree) → Copies a → (y : ℕ) → IsNamed v f.seen y → IsTree (heads_of v) (graph_of v) y a → In a S → NodeCopied a (moved y)
+  node_copied : (a : Tree) → Copies a → (y : ℕ) → IsNamed v f.seen y → IsTree (heads_of v) (graph_of v) y a → StandsIn a S → NodeCopied a (moved y)
   node_copied a copy y n g h =
       let w = found y a n g h in
-      let r : R (root a) (head (heads_of T) (node w.at)) = subst (λ k. R k (head (heads_of T) (node w.at))) (sym (node_root (heads_of v) (graph_of v) (get_or f.seen w.at 0) a w.here ∙ head_at v (get_or f.seen w.at 0))) (twin w.at w.lt) in
-      let k = copy (targets (graph_of v) (get_or f.seen w.at 0)) (node_parts (heads_of v) (graph_of v) (get_or f.seen w.at 0) a w.here) (named_parts w.at w.lt) (λ p l. parts_met f.visited.trees a p h l) (head (heads_of T) (node w.at)) r in
-      let grown : IsTree (heads_of T) (graph_of T) (node w.at) k.tree = subst (λ xs. Grows (heads_of T) (graph_of T) xs (Leaf (head (heads_of T) (node w.at))) k.tree) (sym (targets_there w.at a w.lt w.here h)) k.grows in
+      let r : R (root a) (head_of_tree (heads_of T) (node w.at)) = subst (λ k. R k (head_of_tree (heads_of T) (node w.at))) (sym (node_root (heads_of v) (graph_of v) (get_or f.seen w.at 0) a w.here ∙ head_at v (get_or f.seen w.at 0))) (twin w.at w.lt) in
+      let k = copy (leads_to (graph_of v) (get_or f.seen w.at 0)) (node_parts (heads_of v) (graph_of v) (get_or f.seen w.at 0) a w.here) (named_parts w.at w.lt) (λ p l. parts_met f.visited.trees a p h l) (head_of_tree (heads_of T) (node w.at)) r in
+      let grown : IsTree (heads_of T) (graph_of T) (node w.at) k.tree = subst (λ xs. GrowsTrees (heads_of T) (graph_of T) xs (Leaf (head_of_tree (heads_of T) (node w.at))) k.tree) (sym (targets_there w.at a w.lt w.here h)) k.grows in
       record { tree = k.tree; is = subst (λ x. IsTree (heads_of T) (graph_of T) x k.tree) (sym w.moves) grown; alike = k.alike }
 
   copied : (a : Tree) → Copies a
   copied (Leaf k) ys NoTrees n i h r = record { tree = Leaf h; grows = Done; alike = r }
   copied (Apply a p) ys are n i h r =
       let w = pushed (heads_of v) (graph_of v) ys (tree_parts a) p are in
-      let before : Copied a (map moved w.before) h = copied a w.before w.are (λ y k. n y (subst (In y) (sym w.is) (in_left w.before (w.last ∷ []) y k))) (λ b k. i b (in_left (tree_parts a) (p ∷ []) b k)) h r in
-      let last : NodeCopied p (moved w.last) = node_copied p (copied p) w.last (n w.last (subst (In w.last) (sym w.is) (in_right w.before (w.last ∷ []) w.last (inl refl)))) w.tree (i p (in_right (tree_parts a) (p ∷ []) p (inl refl))) in
+      let before : Copied a (map moved w.before) h = copied a w.before w.are (λ y k. n y (subst (StandsIn y) (sym w.is) (in_left w.before (w.last ∷ []) y k))) (λ b k. i b (in_left (tree_parts a) (p ∷ []) b k)) h r in
+      let last : NodeCopied p (moved w.last) = node_copied p (copied p) w.last (n w.last (subst (StandsIn w.last) (sym w.is) (in_right w.before (w.last ∷ []) w.last (inl refl)))) w.tree (i p (in_right (tree_parts a) (p ∷ []) p (inl refl))) in
       record {
         tree = Apply before.tree last.tree;
-        grows = subst (λ xs. Grows (heads_of T) (graph_of T) xs (Leaf h) (Apply before.tree last.tree)) (sym (ap (map moved) w.is ∙ map-append moved w.before (w.last ∷ []))) (grows_push (moved w.last) before.grows last.is);
+        grows = subst (λ xs. GrowsTrees (heads_of T) (graph_of T) xs (Leaf h) (Apply before.tree last.tree)) (sym (ap (map moved) w.is ∙ map-append moved w.before (w.last ∷ []))) (grows_push (moved w.last) before.grows last.is);
         alike = (before.alike, last.alike);
       }
 
@@ -548,7 +548,7 @@ module _ (v t : Abc) (f : IsTidiedValue v t) where
     are : AreTrees (heads_of T) (graph_of T) xs trees
     pairs : Pairs (Alike R) ts trees
 
-  all_copied : (ys : List ℕ) (ts : List Tree) → AreTrees (heads_of v) (graph_of v) ys ts → ((y : ℕ) → In y ys → IsNamed v f.seen y) → ((a : Tree) → In a ts → In a S) → AllCopied (map moved ys) ts
+  all_copied : (ys : List ℕ) (ts : List Tree) → AreTrees (heads_of v) (graph_of v) ys ts → ((y : ℕ) → StandsIn y ys → IsNamed v f.seen y) → ((a : Tree) → StandsIn a ts → StandsIn a S) → AllCopied (map moved ys) ts
   all_copied ys ts NoTrees n h = record { trees = []; are = NoTrees; pairs = tt }
   all_copied ys0 ts0 (OneMore {x = y} {xs = ys} {t = a} {ts = ts} g are) n h =
       let first = node_copied a (copied a) y (n y (inl refl)) g (h a (inl refl)) in
@@ -558,7 +558,7 @@ module _ (v t : Abc) (f : IsTidiedValue v t) where
   -- ---- the roots of the tidied file
 
   abbrev F : Pool → ℕ → ℕ
-  F = number_in (with_numbers c f.numbers)
+  F = new_index (with_numbers c f.numbers)
 
   root_moved : (pool : Pool) (i : ℕ) → (node_of c pool i ≡ 0 → num 0 ≡ 0) → node_of d pool (F pool i) ≡ moved (node_of c pool i)
   root_moved pools.NoPool i z = refl
@@ -591,8 +591,8 @@ module _ (v t : Abc) (f : IsTidiedValue v t) where
   new_root : (i : ℕ) → i < length f.seen → root (get_or (visit_all copy.trees []) i none) ≡ entry_head T (made i)
   new_root i lt =
       let r : R (root_of i) (root (get_or (visit_all copy.trees []) i none)) = root_alike R (get_or S i none) (get_or (visit_all copy.trees []) i none) (pairs_at (Alike R) S (visit_all copy.trees []) i none none (omega (arith, lt, many_met)) new_met) in
-      let k : R (root_of i) (head (heads_of T) (node i)) = subst (λ h. R h (head (heads_of T) (node i))) (sym (root_at i none lt)) (twin i lt) in
-      let same : root (get_or (visit_all copy.trees []) i none) ≡ head (heads_of T) (node i) = leaf_same (root (get_or (visit_all copy.trees []) i none)) (head (heads_of T) (node i)) (alike_one R one (Leaf (root_of i)) (Leaf (root (get_or (visit_all copy.trees []) i none))) (Leaf (head (heads_of T) (node i))) r k) in
+      let k : R (root_of i) (head_of_tree (heads_of T) (node i)) = subst (λ h. R h (head_of_tree (heads_of T) (node i))) (sym (root_at i none lt)) (twin i lt) in
+      let same : root (get_or (visit_all copy.trees []) i none) ≡ head_of_tree (heads_of T) (node i) = leaf_same (root (get_or (visit_all copy.trees []) i none)) (head_of_tree (heads_of T) (node i)) (alike_one R one (Leaf (root_of i)) (Leaf (root (get_or (visit_all copy.trees []) i none))) (Leaf (head_of_tree (heads_of T) (node i))) r k) in
       same ∙ head_at T (node i) ∙ ap (entry_head T) (entry_there i lt)
 
   new_privates : privates_among (visit_all copy.trees []) ≡ qs
@@ -617,7 +617,7 @@ module _ (v t : Abc) (f : IsTidiedValue v t) where
   blank_again pools.Space i = refl
   blank_again pools.Name i = refl
 
-  free_again : (free : Free) → IsFree v free → IsFree T free
+  free_again : (free : Free) → IsFreeForm v free → IsFreeForm T free
   free_again free h = record {
     trees = copy.trees;
     rooted = subst (λ xs. AreTrees (heads_of T) (graph_of T) xs copy.trees) (sym roots_moved) copy.are;
@@ -629,24 +629,24 @@ module _ (v t : Abc) (f : IsTidiedValue v t) where
       things : map (thing_of T (privates_among (visit_all copy.trees []))) copy.trees ≡ free.things
       things = ap (λ ps. map (thing_of T ps) copy.trees) new_privates ∙ sym (things_alike v ps T qs f.visited.trees copy.trees copy.pairs) ∙ things_are v t free f h
 
-  pub free_kept : (free : Free) → IsFree v free → IsFree t free
-  free_kept free h = subst (λ x. IsFree x free) (sym is_T) (free_again free h)
+  pub free_kept : (free : Free) → IsFreeForm v free → IsFreeForm t free
+  free_kept free h = subst (λ x. IsFreeForm x free) (sym is_T) (free_again free h)
 
   -- ---- its indices are those of entries
 
-  number_few : (y : ℕ) (a : Tree) → IsNamed v f.seen y → IsTree (heads_of v) (graph_of v) y a → In a S → num y ≤ size_for d (label ps (entry_at v y))
+  number_few : (y : ℕ) (a : Tree) → IsNamed v f.seen y → IsTree (heads_of v) (graph_of v) y a → StandsIn a S → num y ≤ size_for d (label_of_entry ps (entry_at v y))
   number_few y a n g h =
       let w = found y a n g h in
-      let most : place w.at ≤ size_for d (label ps (entry w.at)) = few T rows w.at (label ps (entry w.at)) (map num (parts c (entry w.at))) refl refl refl refl refl refl refl (omega (arith, w.lt, many_rows)) (row_at w.at) in
-      subst (λ k. k ≤ size_for d (label ps (entry_at v y))) (sym w.number_is) (subst (λ l. place w.at ≤ size_for d l) (sym w.labelled) most)
+      let most : place w.at ≤ size_for d (label_of_entry ps (entry w.at)) = few T rows w.at (label_of_entry ps (entry w.at)) (map num (parts c (entry w.at))) refl refl refl refl refl refl refl (omega (arith, w.lt, many_rows)) (row_at w.at) in
+      subst (λ k. k ≤ size_for d (label_of_entry ps (entry_at v y))) (sym w.number_is) (subst (λ l. place w.at ≤ size_for d l) (sym w.labelled) most)
 
-  numbers_few : (ys : List ℕ) (ts : List Tree) → AreTrees (heads_of v) (graph_of v) ys ts → ((y : ℕ) → In y ys → IsNamed v f.seen y) → ((a : Tree) → In a ts → In a S) → (y : ℕ) → In y ys → num y ≤ size_for d (label ps (entry_at v y))
+  numbers_few : (ys : List ℕ) (ts : List Tree) → AreTrees (heads_of v) (graph_of v) ys ts → ((y : ℕ) → StandsIn y ys → IsNamed v f.seen y) → ((a : Tree) → StandsIn a ts → StandsIn a S) → (y : ℕ) → StandsIn y ys → num y ≤ size_for d (label_of_entry ps (entry_at v y))
   numbers_few ys ts NoTrees n h y k = absurd k
   numbers_few ys0 ts0 (OneMore {x = x} {t = a} g are) n h y (inl e) =
-      subst (λ z. num z ≤ size_for d (label ps (entry_at v z))) (sym e) (number_few x a (n x (inl refl)) g (h a (inl refl)))
+      subst (λ z. num z ≤ size_for d (label_of_entry ps (entry_at v z))) (sym e) (number_few x a (n x (inl refl)) g (h a (inl refl)))
   numbers_few ys0 ts0 (OneMore {xs = ys} {ts = ts} g are) n h y (inr k) = numbers_few ys ts are (λ w l. n w (inr l)) (λ b l. h b (inr l)) y k
 
-  root_sized : (pool : Pool) (i : ℕ) → (node_of c pool i ≡ 0 → num 0 ≡ 0) → num (node_of c pool i) ≤ size_for d (label ps (entry_at v (node_of c pool i))) → names_pool pool ≡ true → F pool i ≤ pool_size T pool
+  root_sized : (pool : Pool) (i : ℕ) → (node_of c pool i ≡ 0 → num 0 ≡ 0) → num (node_of c pool i) ≤ size_for d (label_of_entry ps (entry_at v (node_of c pool i))) → names_pool pool ≡ true → F pool i ≤ pool_size T pool
   root_sized pools.NoPool i z most e = absurd (true≢false (sym e))
   root_sized pools.Int i z most e = ints_sized v d ps num i z most
   root_sized pools.UInt i z most e = uints_sized v d ps num i z most
@@ -655,26 +655,26 @@ module _ (v t : Abc) (f : IsTidiedValue v t) where
   root_sized pools.Space i z most e = namespaces_sized v d ps num i z most
   root_sized pools.Name i z most e = names_sized v d ps num i z most
 
-  in_nodes : (rs : List Ref) (r : Ref) → In r rs → In (node_of c r.pool r.index) (map (λ (q : Ref). node_of c q.pool q.index) rs)
+  in_nodes : (rs : List Ref) (r : Ref) → StandsIn r rs → StandsIn (node_of c r.pool r.index) (map (λ (q : Ref). node_of c q.pool q.index) rs)
   in_nodes [] r h = absurd h
   in_nodes (q ∷ rs) r (inl e) = inl (ap (λ (x : Ref). node_of c x.pool x.index) e)
   in_nodes (q ∷ rs) r (inr h) = inr (in_nodes rs r h)
 
-  ref_there : (r : Ref) → In r (file_refs v) → IsThere T (renewed F r)
+  ref_there : (r : Ref) → StandsIn r (file_refs v) → IsEntryThere T (renewed F r)
   ref_there r h =
       let y = in_nodes (file_refs v) r h in
       root_sized r.pool r.index
       (λ q. zero_among (roots_of v) f.visited.trees f.visited.rooted (λ z k. named_root v f.seen z k) (λ a k. rooted_met f.visited.trees a k) (node_of c r.pool r.index) y q)
       (numbers_few (roots_of v) f.visited.trees f.visited.rooted (λ z k. named_root v f.seen z k) (λ a k. rooted_met f.visited.trees a k) (node_of c r.pool r.index) y)
 
-  all_there : (rs : List Ref) → ((r : Ref) → In r rs → IsThere T (renewed F r)) → (r : Ref) → In r (map (renewed F) rs) → IsThere T r
+  all_there : (rs : List Ref) → ((r : Ref) → StandsIn r rs → IsEntryThere T (renewed F r)) → (r : Ref) → StandsIn r (map (renewed F) rs) → IsEntryThere T r
   all_there [] h r k = absurd k
-  all_there (q ∷ rs) h r (inl e) = subst (IsThere T) (sym e) (h q (inl refl))
+  all_there (q ∷ rs) h r (inl e) = subst (IsEntryThere T) (sym e) (h q (inl refl))
   all_there (q ∷ rs) h r (inr k) = all_there rs (λ x l. h x (inr l)) r k
 
-  refs_there : (r : Ref) → In r (file_refs T) → IsThere T r
-  refs_there r h = all_there (file_refs v) ref_there r (subst (In r) (refs_renewed F v) h)
+  refs_there : (r : Ref) → StandsIn r (file_refs T) → IsEntryThere T r
+  refs_there r h = all_there (file_refs v) ref_there r (subst (StandsIn r) (refs_renewed F v) h)
 
   -- every index of the definitions and bodies of the tidied file names an entry, or nothing
-  pub all_refs_there : (r : Ref) → In r (file_refs t) → IsThere t r
-  all_refs_there = subst (λ x. (r : Ref) → In r (file_refs x) → IsThere x r) (sym is_T) refs_there
+  pub all_refs_there : (r : Ref) → StandsIn r (file_refs t) → IsEntryThere t r
+  all_refs_there = subst (λ x. (r : Ref) → StandsIn r (file_refs x) → IsEntryThere x r) (sym is_T) refs_there

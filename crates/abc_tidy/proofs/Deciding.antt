@@ -5,7 +5,7 @@ use Rattle.abc_file_types.specs.declared.tables.Abc.{Abc}
 use Rattle.abc_file_types.specs.Files.{Fits}
 use Rattle.abc_tidy_entries.specs.declared.error.TidyRule.{TidyRule}
 use Rattle.abc_tidy_entries.specs.declared.error.TidyRule.TheVariants as rules
-use Rattle.abc_tidy_entries.specs.Rules.{Breaks, HoldBefore, Holds, IsFirstBroken, IsTidied}
+use Rattle.abc_tidy_entries.specs.Rules.{BreaksTidyRule, HoldBefore, HoldsTidyRule, IsFirstTidyBroken, IsTidied}
 use Rattle.abc_tidy_entries.specs.Visited.{IsTidiedValue}
 use Rattle.abc_tidy.specs.Answers.{HasOneTidying}
 use Rattle.abc_tidy.proofs.Existing.{has_value}
@@ -19,7 +19,7 @@ use Rattle.abc_tidy.proofs.Same.{same_tidied}
 one_value : (v t u : Abc) → IsTidiedValue v t → IsTidiedValue v u → t ≡ u
 one_value v t u f g = let h = tidied_has_free v t f in same_tidied v t v u h.0 f g h.1 h.1
 
-least : (v : Abc) (rule : TidyRule) (i j : ℕ) → IsFirstBroken v rule i → IsFirstBroken v rule j → i ≡ j
+least : (v : Abc) (rule : TidyRule) (i j : ℕ) → IsFirstTidyBroken v rule i → IsFirstTidyBroken v rule j → i ≡ j
 least v rule i j f g = go (cases_order i j)
   where
     go : (i ≡ j) ⊎ ((i < j) ⊎ (j < i)) → i ≡ j
@@ -27,7 +27,7 @@ least v rule i j f g = go (cases_order i j)
     go (inr (inl lt)) = absurd (g.least i lt f.broken)
     go (inr (inr lt)) = absurd (f.least j lt g.broken)
 
-one_refusal : (v : Abc) (rule other : TidyRule) (i j : ℕ) → IsFirstBroken v rule i → IsFirstBroken v other j → (rule ≡ other) × (i ≡ j)
+one_refusal : (v : Abc) (rule other : TidyRule) (i j : ℕ) → IsFirstTidyBroken v rule i → IsFirstTidyBroken v other j → (rule ≡ other) × (i ≡ j)
 one_refusal v rules.Operand rules.Operand i j f g = (refl, least v rules.Operand i j f g)
 one_refusal v rules.Operand rules.ParamName i j f g = absurd (g.before i f.broken)
 one_refusal v rules.Operand rules.NameCycle i j f g = absurd (g.before.0 i f.broken)
@@ -45,7 +45,7 @@ one_refusal v rules.TooLarge rules.ParamName i j f g = absurd (f.before.1 j g.br
 one_refusal v rules.TooLarge rules.NameCycle i j f g = absurd (f.before.2 j g.broken)
 one_refusal v rules.TooLarge rules.TooLarge i j f g = (refl, least v rules.TooLarge i j f g)
 
-never_both : (v t : Abc) (rule : TidyRule) (i : ℕ) → IsTidied v t → IsFirstBroken v rule i → ⊥
+never_both : (v t : Abc) (rule : TidyRule) (i : ℕ) → IsTidied v t → IsFirstTidyBroken v rule i → ⊥
 never_both v t rules.Operand i is b = is.operands i b.broken
 never_both v t rules.ParamName i is b = is.param_names i b.broken
 never_both v t rules.NameCycle i is b = is.names i b.broken
@@ -61,17 +61,17 @@ none_first P none zero i lt p = absurd (below i lt)
     below i l = omega arith
 none_first P none (suc n) i lt p = none i p (λ j l. none_first P none n j (omega (arith, lt, l)))
 
-module _ (v : Abc) (untidied : (t : Abc) → ¬ IsTidied v t) (unbroken : (rule : TidyRule) (i : ℕ) → ¬ IsFirstBroken v rule i) where
-  holds : (rule : TidyRule) → HoldBefore v rule → Holds v rule
-  holds rule before i b = none_first (Breaks v rule) (λ j k l. unbroken rule j (record { before = before; broken = k; least = l })) (suc i) i (omega arith) b
+module _ (v : Abc) (untidied : (t : Abc) → ¬ IsTidied v t) (unbroken : (rule : TidyRule) (i : ℕ) → ¬ IsFirstTidyBroken v rule i) where
+  holds : (rule : TidyRule) → HoldBefore v rule → HoldsTidyRule v rule
+  holds rule before i b = none_first (BreaksTidyRule v rule) (λ j k l. unbroken rule j (record { before = before; broken = k; least = l })) (suc i) i (omega arith) b
 
-  operands : Holds v rules.Operand
+  operands : HoldsTidyRule v rules.Operand
   operands = holds rules.Operand tt
 
-  param_names : Holds v rules.ParamName
+  param_names : HoldsTidyRule v rules.ParamName
   param_names = holds rules.ParamName operands
 
-  names : Holds v rules.NameCycle
+  names : HoldsTidyRule v rules.NameCycle
   names = holds rules.NameCycle (operands, param_names)
 
   neither : ⊥

@@ -4,7 +4,7 @@ use Rattle.std.proofs.lemmas.Bool.{cases_lt}
 use Rattle.abc_base_trees.specs.Trees.{Tree, Leaf, Apply, tree_eq}
 use Rattle.abc_base_trees.specs.Visits.{is_met, visit, visit_all, visit_parts}
 use Rattle.abc_base_trees.proofs.TreeLaws.{trees_refl}
-use Rattle.abc_base_trees.specs.Orders.{In}
+use Rattle.abc_base_trees.specs.Orders.{StandsIn}
 use Rattle.abc_tidy.proofs.Lists.{in_at, in_cases}
 use Rattle.abc_tidy.proofs.Rows.{count_cons, number_among_pools}
 
@@ -13,13 +13,13 @@ below_zero i l = omega arith
 
 abbrev pub Distinct : List Tree → Type 0
 Distinct [] = Unit {0}
-Distinct (x ∷ xs) = (In x xs → ⊥) × Distinct xs
+Distinct (x ∷ xs) = (StandsIn x xs → ⊥) × Distinct xs
 
-distinct_push : (xs : List Tree) (x : Tree) → Distinct xs → (In x xs → ⊥) → Distinct (xs ++ x ∷ [])
+distinct_push : (xs : List Tree) (x : Tree) → Distinct xs → (StandsIn x xs → ⊥) → Distinct (xs ++ x ∷ [])
 distinct_push [] x d fresh = (λ h. h, tt)
 distinct_push (y ∷ ys) x d fresh = (λ h. go (in_cases ys (x ∷ []) y h), distinct_push ys x d.1 (λ h. fresh (inr h)))
   where
-    go : In y ys ⊎ In y (x ∷ []) → ⊥
+    go : StandsIn y ys ⊎ StandsIn y (x ∷ []) → ⊥
     go (inl k) = d.0 k
     go (inr (inl e)) = fresh (inl (sym e))
     go (inr (inr k)) = k
@@ -27,20 +27,20 @@ distinct_push (y ∷ ys) x d fresh = (λ h. go (in_cases ys (x ∷ []) y h), dis
 pub distinct_at : (xs : List Tree) (i j : ℕ) (d : Tree) → Distinct xs → i < length xs → j < length xs → get_or xs i d ≡ get_or xs j d → i ≡ j
 distinct_at [] i j d s l m e = absurd (below_zero i l)
 distinct_at (x ∷ xs) zero zero d s l m e = refl
-distinct_at (x ∷ xs) zero (suc j) d s l m e = absurd (s.0 (subst (λ y. In y xs) (sym e) (in_at xs j d (omega arith))))
-distinct_at (x ∷ xs) (suc i) zero d s l m e = absurd (s.0 (subst (λ y. In y xs) e (in_at xs i d (omega arith))))
+distinct_at (x ∷ xs) zero (suc j) d s l m e = absurd (s.0 (subst (λ y. StandsIn y xs) (sym e) (in_at xs j d (omega arith))))
+distinct_at (x ∷ xs) (suc i) zero d s l m e = absurd (s.0 (subst (λ y. StandsIn y xs) e (in_at xs i d (omega arith))))
 distinct_at (x ∷ xs) (suc i) (suc j) d s l m e = ap suc (distinct_at xs i j d s.1 (omega arith) (omega arith) e)
 
 or_some : (b : Bool) → (b || true) ≡ true
 or_some true = refl
 or_some false = refl
 
-met_of : (t : Tree) (met : List Tree) → In t met → is_met t met ≡ true
+met_of : (t : Tree) (met : List Tree) → StandsIn t met → is_met t met ≡ true
 met_of t [] h = absurd h
 met_of t (m ∷ met) (inl e) = ap (λ b. b || is_met t met) (subst (λ u. tree_eq t u ≡ true) e (trees_refl t))
 met_of t (m ∷ met) (inr h) = ap (λ b. tree_eq t m || b) (met_of t met h) ∙ or_some (tree_eq t m)
 
-not_met : (t : Tree) (met : List Tree) → is_met t met ≡ false → In t met → ⊥
+not_met : (t : Tree) (met : List Tree) → is_met t met ≡ false → StandsIn t met → ⊥
 not_met t met e h = true≢false (sym (met_of t met h) ∙ e)
 
 parts_distinct : (t : Tree) (met : List Tree) → Distinct met → Distinct (visit_parts t met)

@@ -2,7 +2,7 @@
 use Rattle.std.proofs.Common.{◌≡◌, ℕ, ℤ, ◌+◌, List, [], ◌∷◌, ◌++◌, map, nat_eq, refl, sym, ap, subst, ◌∙◌, bytes_eq, int_eq}
 use Rattle.std.specs.Cmp.Lexicographic.{pointwise}
 use Rattle.std.proofs.lemmas.List.{map-append}
-use Rattle.abc_base_graphs.specs.Graph.{targets}
+use Rattle.abc_base_graphs.specs.Graph.{leads_to}
 use Rattle.abc_base_graphs.specs.Texts.{number_among, texts_of}
 use Rattle.abc_tidy_refs.specs.declared.nodes.Counts.{Counts}
 use Rattle.abc_tidy_refs.specs.Nodes.{counts_of}
@@ -10,8 +10,8 @@ use Rattle.abc_file_types.specs.declared.names.Namespace.{Namespace}
 use Rattle.abc_file_types.specs.declared.tables.Abc.{Abc}
 use Rattle.abc_file_types.specs.declared.tables.Eight.{Eight}
 use Rattle.abc_base_trees.specs.declared.heads.Head.{Head}
-use Rattle.abc_base_trees.specs.Trees.{head, no_head}
-use Rattle.abc_tidy_entries.specs.Entries.{double_places, doubles_kind, graph_of, heads_of, int_places, ints_kind, name_head, name_parts, no_parts, place_among, set_parts, sets_kind, space_head, space_heads, space_parts, text_places, texts_kind, uint_places, uints_kind, value_graph, value_head, value_heads}
+use Rattle.abc_base_trees.specs.Trees.{head_of_tree, no_head}
+use Rattle.abc_tidy_entries.specs.Entries.{double_places, doubles_kind, graph_of, heads_of, int_places, ints_kind, name_head, entry_name_parts, no_parts, place_among, set_parts, sets_kind, space_head, space_heads, space_parts, text_places, texts_kind, uint_places, uints_kind, value_graph, value_head, value_heads}
 use Rattle.abc_tidy.specs.Things.{Entry, NoEntry, IntEntry, UIntEntry, DoubleEntry, TextEntry, SpaceEntry, SetEntry, NameEntry, entries, entry_at, parts, space_entries}
 use Rattle.abc_tidy.proofs.Lists.{get_map, same_maps, two_maps}
 
@@ -97,13 +97,13 @@ graph_is v =
     sets : map (parts (counts_of v)) (map SetEntry v.sets) ≡ map (set_parts (counts_of v)) v.sets
     sets = two_maps (parts (counts_of v)) SetEntry (set_parts (counts_of v)) v.sets (λ x. refl)
 
-    names : map (parts (counts_of v)) (map NameEntry v.names) ≡ map (name_parts (counts_of v)) v.names
-    names = two_maps (parts (counts_of v)) NameEntry (name_parts (counts_of v)) v.names (λ x. refl)
+    names : map (parts (counts_of v)) (map NameEntry v.names) ≡ map (entry_name_parts (counts_of v)) v.names
+    names = two_maps (parts (counts_of v)) NameEntry (entry_name_parts (counts_of v)) v.names (λ x. refl)
 
 -- ---- of a node
 
-pub head_at : (v : Abc) (x : ℕ) → head (heads_of v) x ≡ entry_head v (entry_at v x)
-head_at v x = ap (λ hs. head hs x) (sym (heads_are v)) ∙ get_map (entry_head v) (entries v) x NoEntry no_head refl
+pub head_at : (v : Abc) (x : ℕ) → head_of_tree (heads_of v) x ≡ entry_head v (entry_at v x)
+head_at v x = ap (λ hs. head_of_tree hs x) (sym (heads_are v)) ∙ get_map (entry_head v) (entries v) x NoEntry no_head refl
 
-pub targets_at : (v : Abc) (x : ℕ) → targets (graph_of v) x ≡ parts (counts_of v) (entry_at v x)
-targets_at v x = ap (λ g. targets g x) (sym (graph_is v)) ∙ get_map (parts (counts_of v)) (entries v) x NoEntry [] refl
+pub targets_at : (v : Abc) (x : ℕ) → leads_to (graph_of v) x ≡ parts (counts_of v) (entry_at v x)
+targets_at v x = ap (λ g. leads_to g x) (sym (graph_is v)) ∙ get_map (parts (counts_of v)) (entries v) x NoEntry [] refl

@@ -2,8 +2,8 @@
 use Rattle.std.proofs.Common.{◌≡◌, ℕ, zero, suc, List, [], ◌∷◌, ◌++◌, map, Some, None, Option, option_map, flat_map, refl, sym, ap, subst, ◌∙◌, append_assoc, append-nil}
 use Rattle.std.proofs.lemmas.List.{map-append}
 use Rattle.abc_tidy_refs.specs.declared.refs.Ref.{Ref}
-use Rattle.abc_tidy_refs.specs.Refs.{body_refs, class_refs, each, file_refs, handler_refs, instance_refs, instr_refs, metadata_refs, method_refs, operand_pool, option_refs, protected_refs, ref, script_refs, trait_body_refs, trait_refs, value_pool, value_refs}
-use Rattle.abc_tidy_refs.specs.Renumbered.{Renumbering, beside, new_body, new_class, new_file, new_handler, new_instance, new_instr, new_metadata, new_method, new_option, new_script, new_trait, new_trait_body}
+use Rattle.abc_tidy_refs.specs.Refs.{body_refs, class_refs, refs_of, file_refs, handler_refs, instance_refs, instr_refs, metadata_refs, method_refs, operand_pool, option_refs, protected_refs, ref, script_refs, trait_body_refs, trait_refs, value_pool, value_refs}
+use Rattle.abc_tidy_refs.specs.Renumbered.{Renumbering, beside, new_body, renumbered_class, new_file, new_handler, renumbered_instance, new_instr, new_metadata, new_method, new_option, new_script, new_trait, new_trait_body}
 use Rattle.abc_file_types.specs.declared.classes.ClassInfo.{ClassInfo}
 use Rattle.abc_file_types.specs.declared.classes.Instance.{Instance}
 use Rattle.abc_file_types.specs.declared.classes.Script.{Script}
@@ -145,10 +145,10 @@ module _ (f : Renumbering) (value : Ref → ℕ) (fits : Fits f value) where
       gives_at _ (map value (refs x ++ flat_map refs xs)) (map value (refs x) ++ (map value (flat_map refs xs) ++ [])) _ (map-append value (refs x) (flat_map refs xs) ∙ ap (λ l. map value (refs x) ++ l) (sym (append-nil (map value (flat_map refs xs)))))
       (gives_with _ _ _ _ (new x) _ (g x) (gives_with _ _ _ _ (map new xs) _ (list blank fill new refs xs g) (gives_made (new x ∷ map new xs))))
 
-  ones : (pool : Pool) (xs : List ℕ) → Gives (fill_list (fill_one pool) (map (no_index pool) xs)) (map value (each pool xs)) (map (f pool) xs)
-  ones pool xs = gives_at _ (map value (each pool xs)) (map value (flat_map (λ i. ref pool i ∷ []) xs)) _ (ap (map value) (singles xs)) (list (no_index pool) (fill_one pool) (f pool) (λ i. ref pool i ∷ []) xs (one pool))
+  ones : (pool : Pool) (xs : List ℕ) → Gives (fill_list (fill_one pool) (map (no_index pool) xs)) (map value (refs_of pool xs)) (map (f pool) xs)
+  ones pool xs = gives_at _ (map value (refs_of pool xs)) (map value (flat_map (λ i. ref pool i ∷ []) xs)) _ (ap (map value) (singles xs)) (list (no_index pool) (fill_one pool) (f pool) (λ i. ref pool i ∷ []) xs (one pool))
     where
-      singles : (xs : List ℕ) → each pool xs ≡ flat_map (λ i. ref pool i ∷ []) xs
+      singles : (xs : List ℕ) → refs_of pool xs ≡ flat_map (λ i. ref pool i ∷ []) xs
       singles [] = refl
       singles (x ∷ xs) = ap (λ l. ref pool x ∷ l) (singles xs)
 
@@ -175,13 +175,13 @@ module _ (f : Renumbering) (value : Ref → ℕ) (fits : Fits f value) where
 
   method : (m : Method) → Gives (fill_method (new_method no_index m)) (map value (method_refs m)) (new_method f m)
   method m =
-      gives_at _ _ _ _ (five (ref pools.Name m.ret ∷ []) (each pools.Name m.params) (ref pools.Text m.name ∷ []) (flat_map option_refs m.options) (each pools.Text m.param_names))
+      gives_at _ _ _ _ (five (ref pools.Name m.ret ∷ []) (refs_of pools.Name m.params) (ref pools.Text m.name ∷ []) (flat_map option_refs m.options) (refs_of pools.Text m.param_names))
       (gives_with _ _ _ _ _ _ (one pools.Name m.ret) (gives_with _ _ _ _ _ _ (ones pools.Name m.params) (gives_with _ _ _ _ _ _ (one pools.Text m.name)
       (gives_with _ _ _ _ _ _ (list (new_option no_index) fill_option (new_option f) option_refs m.options option) (gives_with _ _ _ _ _ _ (ones pools.Text m.param_names) (gives_made (new_method f m)))))))
 
   metadata : (m : Metadata) → Gives (fill_metadata (new_metadata no_index m)) (map value (metadata_refs m)) (new_metadata f m)
   metadata m =
-      gives_at _ _ _ _ (two (ref pools.Text m.name ∷ []) (each pools.Text m.items))
+      gives_at _ _ _ _ (two (ref pools.Text m.name ∷ []) (refs_of pools.Text m.items))
       (gives_with _ _ _ _ _ _ (one pools.Text m.name) (gives_with _ _ _ _ _ _ (ones pools.Text m.items) (gives_made (new_metadata f m))))
 
   optional : (o : Option OptionValue) → Gives (fill_some fill_option (option_map (new_option no_index) o)) (map value (value_refs o)) (option_map (new_option f) o)
@@ -210,14 +210,14 @@ module _ (f : Renumbering) (value : Ref → ℕ) (fits : Fits f value) where
   traits : (ts : List TraitInfo) → Gives (fill_list fill_trait (map (new_trait no_index) ts)) (map value (flat_map trait_refs ts)) (map (new_trait f) ts)
   traits ts = list (new_trait no_index) fill_trait (new_trait f) trait_refs ts trait
 
-  instance : (x : Instance) → Gives (fill_instance (new_instance no_index x)) (map value (instance_refs x)) (new_instance f x)
+  instance : (x : Instance) → Gives (fill_instance (renumbered_instance no_index x)) (map value (instance_refs x)) (renumbered_instance f x)
   instance x =
-      gives_at _ _ _ _ (five (ref pools.Name x.name ∷ []) (ref pools.Name x.super_name ∷ []) (protected_refs x.protected_ns) (each pools.Name x.interfaces) (flat_map trait_refs x.traits))
+      gives_at _ _ _ _ (five (ref pools.Name x.name ∷ []) (ref pools.Name x.super_name ∷ []) (protected_refs x.protected_ns) (refs_of pools.Name x.interfaces) (flat_map trait_refs x.traits))
       (gives_with _ _ _ _ _ _ (one pools.Name x.name) (gives_with _ _ _ _ _ _ (one pools.Name x.super_name) (gives_with _ _ _ _ _ _ (protected x.protected_ns)
-      (gives_with _ _ _ _ _ _ (ones pools.Name x.interfaces) (gives_with _ _ _ _ _ _ (traits x.traits) (gives_made (new_instance f x)))))))
+      (gives_with _ _ _ _ _ _ (ones pools.Name x.interfaces) (gives_with _ _ _ _ _ _ (traits x.traits) (gives_made (renumbered_instance f x)))))))
 
-  class : (c : ClassInfo) → Gives (fill_class (new_class no_index c)) (map value (class_refs c)) (new_class f c)
-  class c = gives_at _ _ _ _ (sym (append-nil (map value (class_refs c)))) (gives_with _ _ _ _ _ _ (traits c.traits) (gives_made (new_class f c)))
+  class : (c : ClassInfo) → Gives (fill_class (renumbered_class no_index c)) (map value (class_refs c)) (renumbered_class f c)
+  class c = gives_at _ _ _ _ (sym (append-nil (map value (class_refs c)))) (gives_with _ _ _ _ _ _ (traits c.traits) (gives_made (renumbered_class f c)))
 
   script : (s : Script) → Gives (fill_script (new_script no_index s)) (map value (script_refs s)) (new_script f s)
   script s = gives_at _ _ _ _ (sym (append-nil (map value (script_refs s)))) (gives_with _ _ _ _ _ _ (traits s.traits) (gives_made (new_script f s)))
@@ -250,8 +250,8 @@ module _ (f : Renumbering) (value : Ref → ℕ) (fits : Fits f value) where
       gives_at _ _ _ _ (six (flat_map method_refs v.methods) (flat_map metadata_refs v.metadata) (flat_map instance_refs v.instances) (flat_map class_refs v.classes) (flat_map script_refs v.scripts) (flat_map body_refs v.bodies))
       (gives_with _ _ _ _ _ _ (list (new_method no_index) fill_method (new_method f) method_refs v.methods method)
       (gives_with _ _ _ _ _ _ (list (new_metadata no_index) fill_metadata (new_metadata f) metadata_refs v.metadata metadata)
-      (gives_with _ _ _ _ _ _ (list (new_instance no_index) fill_instance (new_instance f) instance_refs v.instances instance)
-      (gives_with _ _ _ _ _ _ (list (new_class no_index) fill_class (new_class f) class_refs v.classes class)
+      (gives_with _ _ _ _ _ _ (list (renumbered_instance no_index) fill_instance (renumbered_instance f) instance_refs v.instances instance)
+      (gives_with _ _ _ _ _ _ (list (renumbered_class no_index) fill_class (renumbered_class f) class_refs v.classes class)
       (gives_with _ _ _ _ _ _ (list (new_script no_index) fill_script (new_script f) script_refs v.scripts script)
       (gives_with _ _ _ _ _ _ (list (new_body no_index) fill_body (new_body f) body_refs v.bodies body) (gives_made (beside (new_file f v) empty))))))))
 

@@ -6,11 +6,11 @@ use Rattle.abc_file_types.specs.Pools.{empty}
 use Rattle.abc_base_trees.specs.Trees.{Tree}
 use Rattle.abc_base_trees.specs.Visits.{visit_all}
 use Rattle.abc_tidy_entries.specs.Visited.{IsTidiedValue, roots_of}
-use Rattle.abc_tidy.specs.Free.{Free, IsFree, no_index, privates_among}
+use Rattle.abc_tidy.specs.Free.{Free, IsFreeForm, no_index, privates_among}
 use Rattle.abc_tidy.specs.Things.{AreThings, Thing}
 use Rattle.abc_tidy.proofs.Twins.{are_things, one_things, one_trees, thing_of}
 
-pub one_free : (v : Abc) (free other : Free) → IsFree v free → IsFree v other → free ≡ other
+pub one_free : (v : Abc) (free other : Free) → IsFreeForm v free → IsFreeForm v other → free ≡ other
 one_free v free other f g =
     let trees : f.trees ≡ g.trees = one_trees f.rooted g.rooted in
     let definitions : free.definitions ≡ other.definitions = f.definitions ∙ sym g.definitions in
@@ -18,7 +18,7 @@ one_free v free other f g =
     one_things (subst (λ ts. AreThings v (privates_among (visit_all ts [])) (roots_of v) free.things) trees f.things) g.things in
     λ i. record { definitions = definitions i; things = things i }
 
-pub tidied_has_free : (v t : Abc) → IsTidiedValue v t → (free : Free) × IsFree v free
+pub tidied_has_free : (v t : Abc) → IsTidiedValue v t → (free : Free) × IsFreeForm v free
 tidied_has_free v t is =
     let trees : List Tree = is.visited.trees in (
       record { definitions = beside (new_file no_index v) empty; things = map (thing_of v (privates_among (visit_all trees []))) trees },

@@ -1,6 +1,6 @@
 -- What follows of tidied files from their free forms.
 use Rattle.std.proofs.Common.{◌≡◌, ℕ, Err, MatchResult, Ok, Result, refl, sym, subst}
-use Rattle.abc_tidy.specs.Free.{HaveOneFree, IsFree}
+use Rattle.abc_tidy.specs.Free.{HaveOneFree, IsFreeForm}
 use Rattle.abc_tidy.proofs.Forms.{one_free, tidied_has_free}
 use Rattle.abc_file_types.specs.declared.tables.Abc.{Abc}
 use Rattle.abc_file_types.specs.Files.{Fits}
@@ -8,7 +8,7 @@ use Rattle.abc_tidy_entries.specs.declared.error.TidyError.{TidyError}
 use Rattle.abc_tidy_entries.specs.declared.error.TidyError.TheVariants as errors
 use Rattle.abc_tidy_entries.specs.declared.error.TidyRule.{TidyRule}
 use Rattle.abc_tidy_entries.specs.declared.error.TidyRule.TheVariants as rules
-use Rattle.abc_tidy_entries.specs.Rules.{IsFirstBroken, IsTidied, IsTidyError}
+use Rattle.abc_tidy_entries.specs.Rules.{IsFirstTidyBroken, IsTidied, IsTidyError}
 use Rattle.abc_tidy.proofs.Again.{no_cycle, no_operand, no_param_name}
 use Rattle.abc_tidy.proofs.Back.{all_refs_there, free_kept}
 use Rattle.abc_tidy.proofs.Same.{same_tidied}
@@ -23,10 +23,10 @@ pub one_form : (v t w u : Abc) → IsTidied v t → IsTidied w u → t ≡ u →
 one_form v t w u f g e =
     let a = kept v t f in
     let b = kept w u g in
-    record { free = a.free; first = a.first; second = subst (IsFree w) (sym (one_free u a.free b.free (subst (λ x. IsFree x a.free) e a.second) b.second)) b.first }
+    record { free = a.free; first = a.first; second = subst (IsFreeForm w) (sym (one_free u a.free b.free (subst (λ x. IsFreeForm x a.free) e a.second) b.second)) b.first }
 
 -- a tidied file breaks no rule
-refused : (v t : Abc) (rule : TidyRule) (i : ℕ) → IsTidied v t → IsFirstBroken t rule i → ⊥
+refused : (v t : Abc) (rule : TidyRule) (i : ℕ) → IsTidied v t → IsFirstTidyBroken t rule i → ⊥
 refused v t rules.Operand i is b = no_operand t i (all_refs_there v t is.value) b.broken
 refused v t rules.ParamName i is b = no_param_name t i (all_refs_there v t is.value) b.broken
 refused v t rules.NameCycle i is b = let k = kept v t is in no_cycle t k.second.trees i k.second.rooted b.broken

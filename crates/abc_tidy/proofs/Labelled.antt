@@ -17,19 +17,19 @@ use Rattle.abc_file_types.specs.declared.tables.Eight.{Eight}
 use Rattle.abc_file_types.specs.Pools.{is_namespace_kind, multiname_code, multiname_kind_of, namespace_code, namespace_kind_of}
 use Rattle.abc_base_trees.specs.declared.heads.Head.{Head}
 use Rattle.abc_base_trees.specs.Trees.{no_head}
-use Rattle.abc_tidy_entries.specs.Entries.{doubles_kind, ints_kind, name_head, place_among, sets_kind, space_head, space_value, texts_kind, uints_kind, value_head}
+use Rattle.abc_tidy_entries.specs.Entries.{doubles_kind, ints_kind, name_head, place_among, sets_kind, space_head, space_told, texts_kind, uints_kind, value_head}
 use Rattle.abc_tidy_entries.proofs.Found.{place_found}
-use Rattle.abc_tidy.specs.Things.{Entry, NoEntry, IntEntry, UIntEntry, DoubleEntry, TextEntry, SpaceEntry, SetEntry, NameEntry, Label, Zero, Int, UInt, Double, Text, Space, Set, Name, entries, entry_at, kind_of, label, space_entries}
+use Rattle.abc_tidy.specs.Things.{Entry, NoEntry, IntEntry, UIntEntry, DoubleEntry, TextEntry, SpaceEntry, SetEntry, NameEntry, EntryLabel, Zero, Int, UInt, Double, Text, Space, Set, Name, entries, entry_at, kind_of_multiname, label_of_entry, space_entries}
 use Rattle.abc_tidy.proofs.Entered.{double_bits, entry_head}
 use Rattle.abc_tidy.proofs.Lists.{Each, each_append, each_at, each_map}
-use Rattle.abc_base_trees.specs.Orders.{In}
+use Rattle.abc_base_trees.specs.Orders.{StandsIn}
 
 pub nat_decides : (x y : ℕ) → Decides (nat_eq x y) (x ≡ y)
 nat_decides x y = (eqb-true x y, eq-eqb x y)
 
 -- ---- from heads to labels and back
 
-abbrev pub label_of : Abc → List ℕ → Head → Label
+abbrev pub label_of : Abc → List ℕ → Head → EntryLabel
 label_of v privates h =
     if nat_eq h.kind 0 then Zero
     else if nat_eq h.kind ints_kind then Int (get_or v.ints h.value (pos 0))
@@ -37,20 +37,20 @@ label_of v privates h =
     else if nat_eq h.kind doubles_kind then Double (record { 0 = get_or (double_bits v) h.value [] })
     else if nat_eq h.kind texts_kind then Text (get_or (texts_of v.strings) h.value [])
     else if nat_eq h.kind sets_kind then Set
-    else if is_namespace_kind h.kind then Space (namespace_kind_of h.kind) (space_value (namespace_kind_of h.kind) (place_among nat_eq privates h.value))
+    else if is_namespace_kind h.kind then Space (namespace_kind_of h.kind) (space_told (namespace_kind_of h.kind) (place_among nat_eq privates h.value))
     else Name (multiname_kind_of h.kind)
 
-abbrev pub head_of : Abc → List ℕ → Label → Head
+abbrev pub head_of : Abc → List ℕ → EntryLabel → Head
 head_of v privates Zero = no_head
 head_of v privates (Int x) = value_head ints_kind (place_among int_eq v.ints x)
 head_of v privates (UInt x) = value_head uints_kind (place_among nat_eq v.uints x)
 head_of v privates (Double x) = value_head doubles_kind (place_among (pointwise nat_eq) (double_bits v) x.0)
 head_of v privates (Text x) = value_head texts_kind (number_among (texts_of v.strings) x)
-head_of v privates (Space kind n) = record { kind = namespace_code kind; value = space_value kind (get_or privates n 0) }
+head_of v privates (Space kind n) = record { kind = namespace_code kind; value = space_told kind (get_or privates n 0) }
 head_of v privates Set = value_head sets_kind 0
 head_of v privates (Name kind) = record { kind = multiname_code kind; value = 0 }
 
-space_label : (v : Abc) (privates : List ℕ) (kind : NsKind) (place : ℕ) → label_of v privates (record { kind = namespace_code kind; value = space_value kind place }) ≡ Space kind (space_value kind (place_among nat_eq privates place))
+space_label : (v : Abc) (privates : List ℕ) (kind : NsKind) (place : ℕ) → label_of v privates (record { kind = namespace_code kind; value = space_told kind place }) ≡ Space kind (space_told kind (place_among nat_eq privates place))
 space_label v privates spaces.Private place = refl
 space_label v privates spaces.Namespace place = refl
 space_label v privates spaces.Package place = refl
@@ -72,7 +72,7 @@ name_label v privates (kinds.MultiL false) = refl
 name_label v privates (kinds.MultiL true) = refl
 name_label v privates kinds.TypeName = refl
 
-pub name_head_is : (m : Multiname) → name_head m ≡ record { kind = multiname_code (kind_of m); value = 0 }
+pub name_head_is : (m : Multiname) → name_head m ≡ record { kind = multiname_code (kind_of_multiname m); value = 0 }
 name_head_is (names.QName attr ns name) = refl
 name_head_is (names.Rt attr name) = refl
 name_head_is (names.RtL attr) = refl
@@ -81,7 +81,7 @@ name_head_is (names.MultiL attr set) = refl
 name_head_is (names.TypeName base params) = refl
 
 abbrev Labels : Abc → List ℕ → Entry → Type 0
-Labels v privates e = label_of v privates (entry_head v e) ≡ label privates e
+Labels v privates e = label_of v privates (entry_head v e) ≡ label_of_entry privates e
 
 spaces_labels : (v : Abc) (privates : List ℕ) (place : ℕ) (ns : List Namespace) → Each (Labels v privates) (space_entries place ns)
 spaces_labels v privates place [] = tt
@@ -103,7 +103,7 @@ all_labels v privates =
     uints : Each (Labels v privates) (map UIntEntry v.uints)
     uints = each_map (Labels v privates) UIntEntry v.uints (λ x h. ap UInt (place_found nat_eq nat_decides x 0 v.uints h))
 
-    bits : (ds : List Eight) (x : Eight) → In x ds → In x.0 (map (λ d. d.0) ds)
+    bits : (ds : List Eight) (x : Eight) → StandsIn x ds → StandsIn x.0 (map (λ d. d.0) ds)
     bits [] x h = absurd h
     bits (d ∷ ds) x (inl e) = inl (ap (λ y. y.0) e)
     bits (d ∷ ds) x (inr h) = inr (bits ds x h)
@@ -118,16 +118,16 @@ all_labels v privates =
     sets = each_map (Labels v privates) SetEntry v.sets (λ x h. refl)
 
     labels : Each (Labels v privates) (map NameEntry v.names)
-    labels = each_map (Labels v privates) NameEntry v.names (λ m h. ap (label_of v privates) (name_head_is m) ∙ name_label v privates (kind_of m))
+    labels = each_map (Labels v privates) NameEntry v.names (λ m h. ap (label_of v privates) (name_head_is m) ∙ name_label v privates (kind_of_multiname m))
 
 -- the label of a node is that of its head
-pub label_found : (v : Abc) (privates : List ℕ) (x : ℕ) → label_of v privates (entry_head v (entry_at v x)) ≡ label privates (entry_at v x)
+pub label_found : (v : Abc) (privates : List ℕ) (x : ℕ) → label_of v privates (entry_head v (entry_at v x)) ≡ label_of_entry privates (entry_at v x)
 label_found v privates x = each_at (Labels v privates) (entries v) x NoEntry refl (all_labels v privates)
 
 -- ---- a Private namespace is among those that are visited
 
 abbrev pub FineSpace : List ℕ → NsKind → ℕ → Type 0
-FineSpace privates spaces.Private place = In place privates
+FineSpace privates spaces.Private place = StandsIn place privates
 FineSpace privates spaces.Namespace place = Unit {0}
 FineSpace privates spaces.Package place = Unit {0}
 FineSpace privates spaces.PackageInternal place = Unit {0}
@@ -145,7 +145,7 @@ Fine privates (SpaceEntry place n) = FineSpace privates n.kind place
 Fine privates (SetEntry spaces) = Unit {0}
 Fine privates (NameEntry m) = Unit {0}
 
-space_found : (v : Abc) (privates : List ℕ) (kind : NsKind) (place : ℕ) → FineSpace privates kind place → head_of v privates (Space kind (space_value kind (place_among nat_eq privates place))) ≡ record { kind = namespace_code kind; value = space_value kind place }
+space_found : (v : Abc) (privates : List ℕ) (kind : NsKind) (place : ℕ) → FineSpace privates kind place → head_of v privates (Space kind (space_told kind (place_among nat_eq privates place))) ≡ record { kind = namespace_code kind; value = space_told kind place }
 space_found v privates spaces.Private place h = ap (λ p. record { kind = namespace_code spaces.Private; value = p }) (place_found nat_eq nat_decides place 0 privates h)
 space_found v privates spaces.Namespace place h = refl
 space_found v privates spaces.Package place h = refl
@@ -154,7 +154,7 @@ space_found v privates spaces.Protected place h = refl
 space_found v privates spaces.Explicit place h = refl
 space_found v privates spaces.StaticProtected place h = refl
 
-pub head_found : (v : Abc) (privates : List ℕ) (e : Entry) → Fine privates e → head_of v privates (label privates e) ≡ entry_head v e
+pub head_found : (v : Abc) (privates : List ℕ) (e : Entry) → Fine privates e → head_of v privates (label_of_entry privates e) ≡ entry_head v e
 head_found v privates NoEntry h = refl
 head_found v privates (IntEntry x) h = refl
 head_found v privates (UIntEntry x) h = refl

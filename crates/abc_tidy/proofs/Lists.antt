@@ -1,26 +1,26 @@
 -- What stands in a list, and lists whose elements are related one by one.
 use Rattle.std.proofs.Common.{◌≡◌, ℕ, zero, suc, ◌<◌, ◌⊎◌, inl, inr, List, [], ◌∷◌, ◌++◌, map, length, get_or, Bool, true, false, if◌then◌else◌, refl, sym, ap, subst, ◌∙◌, arith, true≢false}
-use Rattle.abc_base_trees.specs.Orders.{In}
+use Rattle.abc_base_trees.specs.Orders.{StandsIn}
 
-pub in_left : {A : Type 0} (xs ys : List A) (x : A) → In x xs → In x (xs ++ ys)
+pub in_left : {A : Type 0} (xs ys : List A) (x : A) → StandsIn x xs → StandsIn x (xs ++ ys)
 in_left [] ys x h = absurd h
 in_left (y ∷ xs) ys x (inl e) = inl e
 in_left (y ∷ xs) ys x (inr h) = inr (in_left xs ys x h)
 
-pub in_right : {A : Type 0} (xs ys : List A) (x : A) → In x ys → In x (xs ++ ys)
+pub in_right : {A : Type 0} (xs ys : List A) (x : A) → StandsIn x ys → StandsIn x (xs ++ ys)
 in_right [] ys x h = h
 in_right (y ∷ xs) ys x h = inr (in_right xs ys x h)
 
-pub in_cases : {A : Type 0} (xs ys : List A) (x : A) → In x (xs ++ ys) → In x xs ⊎ In x ys
+pub in_cases : {A : Type 0} (xs ys : List A) (x : A) → StandsIn x (xs ++ ys) → StandsIn x xs ⊎ StandsIn x ys
 in_cases [] ys x h = inr h
 in_cases (y ∷ xs) ys x (inl e) = inl (inl e)
 in_cases {A} (y ∷ xs) ys x (inr h) = go (in_cases xs ys x h)
   where
-    go : In x xs ⊎ In x ys → In x (y ∷ xs) ⊎ In x ys
+    go : StandsIn x xs ⊎ StandsIn x ys → StandsIn x (y ∷ xs) ⊎ StandsIn x ys
     go (inl k) = inl (inr k)
     go (inr k) = inr k
 
-pub in_at : {A : Type 0} (xs : List A) (i : ℕ) (d : A) → i < length xs → In (get_or xs i d) xs
+pub in_at : {A : Type 0} (xs : List A) (i : ℕ) (d : A) → i < length xs → StandsIn (get_or xs i d) xs
 in_at [] i d lt = absurd (none i lt)
   where
     none : (i : ℕ) → i < 0 → ⊥
@@ -29,7 +29,7 @@ in_at (x ∷ xs) zero d lt = inl refl
 in_at (x ∷ xs) (suc i) d lt = inr (in_at xs i d (omega arith))
 
 -- where a value stands
-pub in_place : {A : Type 0} (xs : List A) (x d : A) → In x xs → (i : ℕ) × (i < length xs) × (get_or xs i d ≡ x)
+pub in_place : {A : Type 0} (xs : List A) (x d : A) → StandsIn x xs → (i : ℕ) × (i < length xs) × (get_or xs i d ≡ x)
 in_place [] x d h = absurd h
 in_place (y ∷ xs) x d (inl e) = (zero, omega arith, sym e)
 in_place (y ∷ xs) x d (inr h) = let r = in_place xs x d h in (suc r.0, omega (arith, r.1), r.2)
@@ -93,7 +93,7 @@ pub each_append : {A : Type 0} (P : A → Type 0) (xs ys : List A) → Each P xs
 each_append P [] ys p q = q
 each_append P (x ∷ xs) ys p q = (p.0, each_append P xs ys p.1 q)
 
-pub each_map : {A B : Type 0} (P : B → Type 0) (f : A → B) (xs : List A) → ((x : A) → In x xs → P (f x)) → Each P (map f xs)
+pub each_map : {A B : Type 0} (P : B → Type 0) (f : A → B) (xs : List A) → ((x : A) → StandsIn x xs → P (f x)) → Each P (map f xs)
 each_map P f [] h = tt
 each_map P f (x ∷ xs) h = (h x (inl refl), each_map P f xs (λ y l. h y (inr l)))
 

@@ -10,7 +10,7 @@ use Rattle.abc_file_types.specs.declared.names.Namespace.{Namespace}
 use Rattle.abc_file_types.specs.declared.tables.Abc.{Abc}
 use Rattle.abc_file_types.specs.declared.tables.Eight.{Eight}
 use Rattle.abc_tidy_entries.specs.NewPools.{picked_at}
-use Rattle.abc_tidy_entries.specs.Visited.{pool_index}
+use Rattle.abc_tidy_entries.specs.Visited.{pool_of_node}
 use Rattle.abc_tidy_entries.proofs.Picked.{a_pick, no_pick}
 use Rattle.abc_tidy.specs.Things.{Entry, NoEntry, IntEntry, UIntEntry, DoubleEntry, TextEntry, SpaceEntry, SetEntry, NameEntry, entries, entry_at, space_entries}
 
@@ -194,8 +194,8 @@ not_le x n lt = by (nat_le x n) refl
     by true e = absurd (no (leb-true x n e))
     by false e = e
 
-pub pool_at : (v : Abc) (x : ℕ) (e : Entry) → Located v x e → pool_index (counts_of v) x ≡ entry_pool e
-pool_at v x e (AtNone at) = ap (pool_index (counts_of v)) at
+pub pool_at : (v : Abc) (x : ℕ) (e : Entry) → Located v x e → pool_of_node (counts_of v) x ≡ entry_pool e
+pool_at v x e (AtNone at) = ap (pool_of_node (counts_of v)) at
 pool_at v x e (AtInt {z = z} j at lt is) =
     let e0 = not_zero x (omega (arith, at)) in
     let e1 = le-leb x (length v.ints) (omega (arith, at, lt)) in

@@ -3,7 +3,7 @@ use Rattle.std.proofs.Common.{◌≡◌, ℕ, ℤ, zero, suc, ◌+◌, ◌-◌, 
 use Rattle.std.proofs.lemmas.Bool.{cases_lt}
 use Rattle.std.proofs.lemmas.List.{length-map}
 use Rattle.abc_tidy_refs.specs.declared.nodes.Counts.{Counts}
-use Rattle.abc_tidy_refs.specs.Nodes.{counts_of, node_at, node_of, set_node}
+use Rattle.abc_tidy_refs.specs.Nodes.{counts_of, node_in_pool, node_of, set_node}
 use Rattle.abc_file_types.specs.declared.names.Multiname.{Multiname}
 use Rattle.abc_file_types.specs.declared.names.MultinameKind.{MultinameKind}
 use Rattle.abc_file_types.specs.declared.names.Namespace.{Namespace}
@@ -11,7 +11,7 @@ use Rattle.abc_file_types.specs.declared.names.NsKind.{NsKind}
 use Rattle.abc_file_types.specs.declared.opcodes.Pool.TheVariants as pools
 use Rattle.abc_file_types.specs.declared.tables.Abc.{Abc}
 use Rattle.abc_file_types.specs.declared.tables.Eight.{Eight}
-use Rattle.abc_tidy.specs.Things.{Entry, NoEntry, IntEntry, UIntEntry, DoubleEntry, TextEntry, SpaceEntry, SetEntry, NameEntry, Label, Zero, Int, UInt, Double, Text, Space, Set, Name, entries, entry_at, label}
+use Rattle.abc_tidy.specs.Things.{Entry, NoEntry, IntEntry, UIntEntry, DoubleEntry, TextEntry, SpaceEntry, SetEntry, NameEntry, EntryLabel, Zero, Int, UInt, Double, Text, Space, Set, Name, entries, entry_at, label_of_entry}
 use Rattle.abc_tidy.proofs.Distinct.{number_in_pool}
 use Rattle.abc_tidy.proofs.Located.{Located, AtNone, AtInt, AtUInt, AtDouble, AtText, AtSpace, AtSet, AtName, locate, many_sets, not_zero, up_to_sets}
 use Rattle.abc_tidy.proofs.Rows.{Row, count_cons, label_pool, made_doubles, made_ints, made_name, made_names, made_sets, made_spaces, made_strings, made_uints, number_among_pools}
@@ -137,24 +137,24 @@ names_there v j lt = names_located v (length v.ints + length v.uints + length v.
 
 -- ---- the node of an index
 
-pub node_here : (before size k : ℕ) → k < size → node_at before size (suc k) ≡ before + suc k
+pub node_here : (before size k : ℕ) → k < size → node_in_pool before size (suc k) ≡ before + suc k
 node_here before size k lt =
     ap (λ b. if b then 0 else if nat_le (suc k) size then before + suc k else 0) (not_zero (suc k) (omega arith))
     ∙ ap (λ b. if b then before + suc k else 0) (le-leb (suc k) size (omega arith))
 
-pub node_cases : (before size i : ℕ) → (node_at before size i ≡ 0) ⊎ ((j : ℕ) × (j < size) × (node_at before size i ≡ before + suc j))
+pub node_cases : (before size i : ℕ) → (node_in_pool before size i ≡ 0) ⊎ ((j : ℕ) × (j < size) × (node_in_pool before size i ≡ before + suc j))
 node_cases before size zero = inl refl
 node_cases before size (suc j) = by (nat_le (suc j) size) refl
   where
-    open_up : node_at before size (suc j) ≡ (if nat_le (suc j) size then before + suc j else 0)
+    open_up : node_in_pool before size (suc j) ≡ (if nat_le (suc j) size then before + suc j else 0)
     open_up = ap (λ b. if b then 0 else if nat_le (suc j) size then before + suc j else 0) (not_zero (suc j) (omega arith))
 
-    by : (b : Bool) → nat_le (suc j) size ≡ b → (node_at before size (suc j) ≡ 0) ⊎ ((i : ℕ) × (i < size) × (node_at before size (suc j) ≡ before + suc i))
+    by : (b : Bool) → nat_le (suc j) size ≡ b → (node_in_pool before size (suc j) ≡ 0) ⊎ ((i : ℕ) × (i < size) × (node_in_pool before size (suc j) ≡ before + suc i))
     by true e = let l : suc j ≤ size = leb-true (suc j) size e in inr (j, omega (arith, l), open_up ∙ ap (λ b. if b then before + suc j else 0) e)
     by false e = inl (open_up ∙ ap (λ b. if b then before + suc j else 0) e)
 
 -- the node that has a number in the pool of a label
-abbrev pub node_for : Counts → Label → ℕ → ℕ
+abbrev pub node_for : Counts → EntryLabel → ℕ → ℕ
 node_for c Zero n = 0
 node_for c (Int x) n = node_of c pools.Int n
 node_for c (UInt x) n = node_of c pools.UInt n
@@ -165,81 +165,81 @@ node_for c Set n = set_node c n
 node_for c (Name k) n = node_of c pools.Name n
 
 -- the node of a number that an index was given
-pub ints_moved : (v : Abc) (d : Counts) (ps : List ℕ) (num : ℕ → ℕ) (i : ℕ) → (node_of (counts_of v) pools.Int i ≡ 0 → num 0 ≡ 0) → node_of d pools.Int (num (node_of (counts_of v) pools.Int i)) ≡ node_for d (label ps (entry_at v (node_of (counts_of v) pools.Int i))) (num (node_of (counts_of v) pools.Int i))
+pub ints_moved : (v : Abc) (d : Counts) (ps : List ℕ) (num : ℕ → ℕ) (i : ℕ) → (node_of (counts_of v) pools.Int i ≡ 0 → num 0 ≡ 0) → node_of d pools.Int (num (node_of (counts_of v) pools.Int i)) ≡ node_for d (label_of_entry ps (entry_at v (node_of (counts_of v) pools.Int i))) (num (node_of (counts_of v) pools.Int i))
 ints_moved v d ps num i zero_is = go (node_cases 0 (length v.ints) i)
   where
-    go : ((node_of (counts_of v) pools.Int i) ≡ 0) ⊎ ((j : ℕ) × (j < length v.ints) × ((node_of (counts_of v) pools.Int i) ≡ 0 + suc j)) → node_of d pools.Int (num (node_of (counts_of v) pools.Int i)) ≡ node_for d (label ps (entry_at v (node_of (counts_of v) pools.Int i))) (num (node_of (counts_of v) pools.Int i))
-    go (inl e) = ap (λ x. node_of d pools.Int (num x)) e ∙ ap (λ n. node_of d pools.Int n) (zero_is e) ∙ sym (ap (λ x. node_for d (label ps (entry_at v x)) (num x)) e)
+    go : ((node_of (counts_of v) pools.Int i) ≡ 0) ⊎ ((j : ℕ) × (j < length v.ints) × ((node_of (counts_of v) pools.Int i) ≡ 0 + suc j)) → node_of d pools.Int (num (node_of (counts_of v) pools.Int i)) ≡ node_for d (label_of_entry ps (entry_at v (node_of (counts_of v) pools.Int i))) (num (node_of (counts_of v) pools.Int i))
+    go (inl e) = ap (λ x. node_of d pools.Int (num x)) e ∙ ap (λ n. node_of d pools.Int n) (zero_is e) ∙ sym (ap (λ x. node_for d (label_of_entry ps (entry_at v x)) (num x)) e)
     go (inr (j, lt, e)) =
         let r = ints_there v j lt in
         let at : entry_at v (node_of (counts_of v) pools.Int i) ≡ IntEntry r.0 = ap (entry_at v) (e ∙ zero_plus j) ∙ r.2 in
-        sym (ap (λ x. node_for d (label ps x) (num (node_of (counts_of v) pools.Int i))) at)
+        sym (ap (λ x. node_for d (label_of_entry ps x) (num (node_of (counts_of v) pools.Int i))) at)
 
 -- the node of a number that an index was given
-pub uints_moved : (v : Abc) (d : Counts) (ps : List ℕ) (num : ℕ → ℕ) (i : ℕ) → (node_of (counts_of v) pools.UInt i ≡ 0 → num 0 ≡ 0) → node_of d pools.UInt (num (node_of (counts_of v) pools.UInt i)) ≡ node_for d (label ps (entry_at v (node_of (counts_of v) pools.UInt i))) (num (node_of (counts_of v) pools.UInt i))
+pub uints_moved : (v : Abc) (d : Counts) (ps : List ℕ) (num : ℕ → ℕ) (i : ℕ) → (node_of (counts_of v) pools.UInt i ≡ 0 → num 0 ≡ 0) → node_of d pools.UInt (num (node_of (counts_of v) pools.UInt i)) ≡ node_for d (label_of_entry ps (entry_at v (node_of (counts_of v) pools.UInt i))) (num (node_of (counts_of v) pools.UInt i))
 uints_moved v d ps num i zero_is = go (node_cases (length v.ints) (length v.uints) i)
   where
-    go : ((node_of (counts_of v) pools.UInt i) ≡ 0) ⊎ ((j : ℕ) × (j < length v.uints) × ((node_of (counts_of v) pools.UInt i) ≡ (length v.ints) + suc j)) → node_of d pools.UInt (num (node_of (counts_of v) pools.UInt i)) ≡ node_for d (label ps (entry_at v (node_of (counts_of v) pools.UInt i))) (num (node_of (counts_of v) pools.UInt i))
-    go (inl e) = ap (λ x. node_of d pools.UInt (num x)) e ∙ ap (λ n. node_of d pools.UInt n) (zero_is e) ∙ sym (ap (λ x. node_for d (label ps (entry_at v x)) (num x)) e)
+    go : ((node_of (counts_of v) pools.UInt i) ≡ 0) ⊎ ((j : ℕ) × (j < length v.uints) × ((node_of (counts_of v) pools.UInt i) ≡ (length v.ints) + suc j)) → node_of d pools.UInt (num (node_of (counts_of v) pools.UInt i)) ≡ node_for d (label_of_entry ps (entry_at v (node_of (counts_of v) pools.UInt i))) (num (node_of (counts_of v) pools.UInt i))
+    go (inl e) = ap (λ x. node_of d pools.UInt (num x)) e ∙ ap (λ n. node_of d pools.UInt n) (zero_is e) ∙ sym (ap (λ x. node_for d (label_of_entry ps (entry_at v x)) (num x)) e)
     go (inr (j, lt, e)) =
         let r = uints_there v j lt in
         let at : entry_at v (node_of (counts_of v) pools.UInt i) ≡ UIntEntry r.0 = ap (entry_at v) e ∙ r.2 in
-        sym (ap (λ x. node_for d (label ps x) (num (node_of (counts_of v) pools.UInt i))) at)
+        sym (ap (λ x. node_for d (label_of_entry ps x) (num (node_of (counts_of v) pools.UInt i))) at)
 
 -- the node of a number that an index was given
-pub doubles_moved : (v : Abc) (d : Counts) (ps : List ℕ) (num : ℕ → ℕ) (i : ℕ) → (node_of (counts_of v) pools.Double i ≡ 0 → num 0 ≡ 0) → node_of d pools.Double (num (node_of (counts_of v) pools.Double i)) ≡ node_for d (label ps (entry_at v (node_of (counts_of v) pools.Double i))) (num (node_of (counts_of v) pools.Double i))
+pub doubles_moved : (v : Abc) (d : Counts) (ps : List ℕ) (num : ℕ → ℕ) (i : ℕ) → (node_of (counts_of v) pools.Double i ≡ 0 → num 0 ≡ 0) → node_of d pools.Double (num (node_of (counts_of v) pools.Double i)) ≡ node_for d (label_of_entry ps (entry_at v (node_of (counts_of v) pools.Double i))) (num (node_of (counts_of v) pools.Double i))
 doubles_moved v d ps num i zero_is = go (node_cases (length v.ints + length v.uints) (length v.doubles) i)
   where
-    go : ((node_of (counts_of v) pools.Double i) ≡ 0) ⊎ ((j : ℕ) × (j < length v.doubles) × ((node_of (counts_of v) pools.Double i) ≡ (length v.ints + length v.uints) + suc j)) → node_of d pools.Double (num (node_of (counts_of v) pools.Double i)) ≡ node_for d (label ps (entry_at v (node_of (counts_of v) pools.Double i))) (num (node_of (counts_of v) pools.Double i))
-    go (inl e) = ap (λ x. node_of d pools.Double (num x)) e ∙ ap (λ n. node_of d pools.Double n) (zero_is e) ∙ sym (ap (λ x. node_for d (label ps (entry_at v x)) (num x)) e)
+    go : ((node_of (counts_of v) pools.Double i) ≡ 0) ⊎ ((j : ℕ) × (j < length v.doubles) × ((node_of (counts_of v) pools.Double i) ≡ (length v.ints + length v.uints) + suc j)) → node_of d pools.Double (num (node_of (counts_of v) pools.Double i)) ≡ node_for d (label_of_entry ps (entry_at v (node_of (counts_of v) pools.Double i))) (num (node_of (counts_of v) pools.Double i))
+    go (inl e) = ap (λ x. node_of d pools.Double (num x)) e ∙ ap (λ n. node_of d pools.Double n) (zero_is e) ∙ sym (ap (λ x. node_for d (label_of_entry ps (entry_at v x)) (num x)) e)
     go (inr (j, lt, e)) =
         let r = doubles_there v j lt in
         let at : entry_at v (node_of (counts_of v) pools.Double i) ≡ DoubleEntry r.0 = ap (entry_at v) e ∙ r.2 in
-        sym (ap (λ x. node_for d (label ps x) (num (node_of (counts_of v) pools.Double i))) at)
+        sym (ap (λ x. node_for d (label_of_entry ps x) (num (node_of (counts_of v) pools.Double i))) at)
 
 -- the node of a number that an index was given
-pub strings_moved : (v : Abc) (d : Counts) (ps : List ℕ) (num : ℕ → ℕ) (i : ℕ) → (node_of (counts_of v) pools.Text i ≡ 0 → num 0 ≡ 0) → node_of d pools.Text (num (node_of (counts_of v) pools.Text i)) ≡ node_for d (label ps (entry_at v (node_of (counts_of v) pools.Text i))) (num (node_of (counts_of v) pools.Text i))
+pub strings_moved : (v : Abc) (d : Counts) (ps : List ℕ) (num : ℕ → ℕ) (i : ℕ) → (node_of (counts_of v) pools.Text i ≡ 0 → num 0 ≡ 0) → node_of d pools.Text (num (node_of (counts_of v) pools.Text i)) ≡ node_for d (label_of_entry ps (entry_at v (node_of (counts_of v) pools.Text i))) (num (node_of (counts_of v) pools.Text i))
 strings_moved v d ps num i zero_is = go (node_cases (length v.ints + length v.uints + length v.doubles) (length v.strings) i)
   where
-    go : ((node_of (counts_of v) pools.Text i) ≡ 0) ⊎ ((j : ℕ) × (j < length v.strings) × ((node_of (counts_of v) pools.Text i) ≡ (length v.ints + length v.uints + length v.doubles) + suc j)) → node_of d pools.Text (num (node_of (counts_of v) pools.Text i)) ≡ node_for d (label ps (entry_at v (node_of (counts_of v) pools.Text i))) (num (node_of (counts_of v) pools.Text i))
-    go (inl e) = ap (λ x. node_of d pools.Text (num x)) e ∙ ap (λ n. node_of d pools.Text n) (zero_is e) ∙ sym (ap (λ x. node_for d (label ps (entry_at v x)) (num x)) e)
+    go : ((node_of (counts_of v) pools.Text i) ≡ 0) ⊎ ((j : ℕ) × (j < length v.strings) × ((node_of (counts_of v) pools.Text i) ≡ (length v.ints + length v.uints + length v.doubles) + suc j)) → node_of d pools.Text (num (node_of (counts_of v) pools.Text i)) ≡ node_for d (label_of_entry ps (entry_at v (node_of (counts_of v) pools.Text i))) (num (node_of (counts_of v) pools.Text i))
+    go (inl e) = ap (λ x. node_of d pools.Text (num x)) e ∙ ap (λ n. node_of d pools.Text n) (zero_is e) ∙ sym (ap (λ x. node_for d (label_of_entry ps (entry_at v x)) (num x)) e)
     go (inr (j, lt, e)) =
         let r = strings_there v j lt in
         let at : entry_at v (node_of (counts_of v) pools.Text i) ≡ TextEntry r.0 = ap (entry_at v) e ∙ r.2 in
-        sym (ap (λ x. node_for d (label ps x) (num (node_of (counts_of v) pools.Text i))) at)
+        sym (ap (λ x. node_for d (label_of_entry ps x) (num (node_of (counts_of v) pools.Text i))) at)
 
 -- the node of a number that an index was given
-pub namespaces_moved : (v : Abc) (d : Counts) (ps : List ℕ) (num : ℕ → ℕ) (i : ℕ) → (node_of (counts_of v) pools.Space i ≡ 0 → num 0 ≡ 0) → node_of d pools.Space (num (node_of (counts_of v) pools.Space i)) ≡ node_for d (label ps (entry_at v (node_of (counts_of v) pools.Space i))) (num (node_of (counts_of v) pools.Space i))
+pub namespaces_moved : (v : Abc) (d : Counts) (ps : List ℕ) (num : ℕ → ℕ) (i : ℕ) → (node_of (counts_of v) pools.Space i ≡ 0 → num 0 ≡ 0) → node_of d pools.Space (num (node_of (counts_of v) pools.Space i)) ≡ node_for d (label_of_entry ps (entry_at v (node_of (counts_of v) pools.Space i))) (num (node_of (counts_of v) pools.Space i))
 namespaces_moved v d ps num i zero_is = go (node_cases (length v.ints + length v.uints + length v.doubles + length v.strings) (length v.namespaces) i)
   where
-    go : ((node_of (counts_of v) pools.Space i) ≡ 0) ⊎ ((j : ℕ) × (j < length v.namespaces) × ((node_of (counts_of v) pools.Space i) ≡ (length v.ints + length v.uints + length v.doubles + length v.strings) + suc j)) → node_of d pools.Space (num (node_of (counts_of v) pools.Space i)) ≡ node_for d (label ps (entry_at v (node_of (counts_of v) pools.Space i))) (num (node_of (counts_of v) pools.Space i))
-    go (inl e) = ap (λ x. node_of d pools.Space (num x)) e ∙ ap (λ n. node_of d pools.Space n) (zero_is e) ∙ sym (ap (λ x. node_for d (label ps (entry_at v x)) (num x)) e)
+    go : ((node_of (counts_of v) pools.Space i) ≡ 0) ⊎ ((j : ℕ) × (j < length v.namespaces) × ((node_of (counts_of v) pools.Space i) ≡ (length v.ints + length v.uints + length v.doubles + length v.strings) + suc j)) → node_of d pools.Space (num (node_of (counts_of v) pools.Space i)) ≡ node_for d (label_of_entry ps (entry_at v (node_of (counts_of v) pools.Space i))) (num (node_of (counts_of v) pools.Space i))
+    go (inl e) = ap (λ x. node_of d pools.Space (num x)) e ∙ ap (λ n. node_of d pools.Space n) (zero_is e) ∙ sym (ap (λ x. node_for d (label_of_entry ps (entry_at v x)) (num x)) e)
     go (inr (j, lt, e)) =
         let r = namespaces_there v j lt in
         let at : entry_at v (node_of (counts_of v) pools.Space i) ≡ SpaceEntry j r.0 = ap (entry_at v) e ∙ r.2 in
-        sym (ap (λ x. node_for d (label ps x) (num (node_of (counts_of v) pools.Space i))) at)
+        sym (ap (λ x. node_for d (label_of_entry ps x) (num (node_of (counts_of v) pools.Space i))) at)
 
 -- the node of a number that an index was given
-pub sets_moved : (v : Abc) (d : Counts) (ps : List ℕ) (num : ℕ → ℕ) (i : ℕ) → (set_node (counts_of v) i ≡ 0 → num 0 ≡ 0) → set_node d (num (set_node (counts_of v) i)) ≡ node_for d (label ps (entry_at v (set_node (counts_of v) i))) (num (set_node (counts_of v) i))
+pub sets_moved : (v : Abc) (d : Counts) (ps : List ℕ) (num : ℕ → ℕ) (i : ℕ) → (set_node (counts_of v) i ≡ 0 → num 0 ≡ 0) → set_node d (num (set_node (counts_of v) i)) ≡ node_for d (label_of_entry ps (entry_at v (set_node (counts_of v) i))) (num (set_node (counts_of v) i))
 sets_moved v d ps num i zero_is = go (node_cases (length v.ints + length v.uints + length v.doubles + length v.strings + length v.namespaces) (length v.sets) i)
   where
-    go : ((set_node (counts_of v) i) ≡ 0) ⊎ ((j : ℕ) × (j < length v.sets) × ((set_node (counts_of v) i) ≡ (length v.ints + length v.uints + length v.doubles + length v.strings + length v.namespaces) + suc j)) → set_node d (num (set_node (counts_of v) i)) ≡ node_for d (label ps (entry_at v (set_node (counts_of v) i))) (num (set_node (counts_of v) i))
-    go (inl e) = ap (λ x. set_node d (num x)) e ∙ ap (λ n. set_node d n) (zero_is e) ∙ sym (ap (λ x. node_for d (label ps (entry_at v x)) (num x)) e)
+    go : ((set_node (counts_of v) i) ≡ 0) ⊎ ((j : ℕ) × (j < length v.sets) × ((set_node (counts_of v) i) ≡ (length v.ints + length v.uints + length v.doubles + length v.strings + length v.namespaces) + suc j)) → set_node d (num (set_node (counts_of v) i)) ≡ node_for d (label_of_entry ps (entry_at v (set_node (counts_of v) i))) (num (set_node (counts_of v) i))
+    go (inl e) = ap (λ x. set_node d (num x)) e ∙ ap (λ n. set_node d n) (zero_is e) ∙ sym (ap (λ x. node_for d (label_of_entry ps (entry_at v x)) (num x)) e)
     go (inr (j, lt, e)) =
         let r = sets_there v j lt in
         let at : entry_at v (set_node (counts_of v) i) ≡ SetEntry r.0 = ap (entry_at v) e ∙ r.2 in
-        sym (ap (λ x. node_for d (label ps x) (num (set_node (counts_of v) i))) at)
+        sym (ap (λ x. node_for d (label_of_entry ps x) (num (set_node (counts_of v) i))) at)
 
 -- the node of a number that an index was given
-pub names_moved : (v : Abc) (d : Counts) (ps : List ℕ) (num : ℕ → ℕ) (i : ℕ) → (node_of (counts_of v) pools.Name i ≡ 0 → num 0 ≡ 0) → node_of d pools.Name (num (node_of (counts_of v) pools.Name i)) ≡ node_for d (label ps (entry_at v (node_of (counts_of v) pools.Name i))) (num (node_of (counts_of v) pools.Name i))
+pub names_moved : (v : Abc) (d : Counts) (ps : List ℕ) (num : ℕ → ℕ) (i : ℕ) → (node_of (counts_of v) pools.Name i ≡ 0 → num 0 ≡ 0) → node_of d pools.Name (num (node_of (counts_of v) pools.Name i)) ≡ node_for d (label_of_entry ps (entry_at v (node_of (counts_of v) pools.Name i))) (num (node_of (counts_of v) pools.Name i))
 names_moved v d ps num i zero_is = go (node_cases (length v.ints + length v.uints + length v.doubles + length v.strings + length v.namespaces + length v.sets) (length v.names) i)
   where
-    go : ((node_of (counts_of v) pools.Name i) ≡ 0) ⊎ ((j : ℕ) × (j < length v.names) × ((node_of (counts_of v) pools.Name i) ≡ (length v.ints + length v.uints + length v.doubles + length v.strings + length v.namespaces + length v.sets) + suc j)) → node_of d pools.Name (num (node_of (counts_of v) pools.Name i)) ≡ node_for d (label ps (entry_at v (node_of (counts_of v) pools.Name i))) (num (node_of (counts_of v) pools.Name i))
-    go (inl e) = ap (λ x. node_of d pools.Name (num x)) e ∙ ap (λ n. node_of d pools.Name n) (zero_is e) ∙ sym (ap (λ x. node_for d (label ps (entry_at v x)) (num x)) e)
+    go : ((node_of (counts_of v) pools.Name i) ≡ 0) ⊎ ((j : ℕ) × (j < length v.names) × ((node_of (counts_of v) pools.Name i) ≡ (length v.ints + length v.uints + length v.doubles + length v.strings + length v.namespaces + length v.sets) + suc j)) → node_of d pools.Name (num (node_of (counts_of v) pools.Name i)) ≡ node_for d (label_of_entry ps (entry_at v (node_of (counts_of v) pools.Name i))) (num (node_of (counts_of v) pools.Name i))
+    go (inl e) = ap (λ x. node_of d pools.Name (num x)) e ∙ ap (λ n. node_of d pools.Name n) (zero_is e) ∙ sym (ap (λ x. node_for d (label_of_entry ps (entry_at v x)) (num x)) e)
     go (inr (j, lt, e)) =
         let r = names_there v j lt in
         let at : entry_at v (node_of (counts_of v) pools.Name i) ≡ NameEntry r.0 = ap (entry_at v) e ∙ r.2 in
-        sym (ap (λ x. node_for d (label ps x) (num (node_of (counts_of v) pools.Name i))) at)
+        sym (ap (λ x. node_for d (label_of_entry ps x) (num (node_of (counts_of v) pools.Name i))) at)
 
 -- ---- where the entry of a row stands
 
@@ -262,7 +262,7 @@ abbrev pub row_pools : List Row → List ℕ
 row_pools rows = map (λ (r : Row). label_pool r.0) rows
 
 -- what a row adds to a pool stands behind what the rows before it add
-added : {B : Type 0} (made : Label → List ℕ → List B) (q : ℕ) → ((l : Label) (ns : List ℕ) → length (made l ns) ≡ cond (nat_eq (label_pool l) q) 1 0) → (rows : List Row) (i : ℕ) (z : B) → i < length rows → made (get_or rows i no_row).0 (get_or rows i no_row).1 ≡ z ∷ [] → slice_get (flat_map (λ (r : Row). made r.0 r.1) rows) (count_by (λ p. nat_eq p q) (take i (row_pools rows))) ≡ Some z
+added : {B : Type 0} (made : EntryLabel → List ℕ → List B) (q : ℕ) → ((l : EntryLabel) (ns : List ℕ) → length (made l ns) ≡ cond (nat_eq (label_pool l) q) 1 0) → (rows : List Row) (i : ℕ) (z : B) → i < length rows → made (get_or rows i no_row).0 (get_or rows i no_row).1 ≡ z ∷ [] → slice_get (flat_map (λ (r : Row). made r.0 r.1) rows) (count_by (λ p. nat_eq p q) (take i (row_pools rows))) ≡ Some z
 added made q many [] i z lt e = absurd (below_zero i lt)
 added made q many (r ∷ rows) zero z lt e = ap (λ l. slice_get (l ++ flat_map (λ (r : Row). made r.0 r.1) rows) 0) e
 added made q many (r ∷ rows) (suc i) z lt e =
@@ -293,7 +293,7 @@ count_next q (x ∷ xs) (suc i) lt e =
     omega (arith, h, a, b)
 
 -- the entry that a row makes, with its number
-abbrev pub entry_made : Label → List ℕ → ℕ → Entry
+abbrev pub entry_made : EntryLabel → List ℕ → ℕ → Entry
 entry_made Zero ns n = NoEntry
 entry_made (Int x) ns n = IntEntry x
 entry_made (UInt x) ns n = UIntEntry x
@@ -317,7 +317,7 @@ ints_put v rows i x ns pool lt row =
     ∙ ap (entry_at v) (node_here 0 (length v.ints) (count_by (λ p. nat_eq p 1) (take i (row_pools rows))) within ∙ zero_plus (count_by (λ p. nat_eq p 1) (take i (row_pools rows))))
     ∙ r.2 ∙ ap (λ z. IntEntry z) value
   where
-    many : (l : Label) (ns : List ℕ) → length (made_ints l ns) ≡ cond (nat_eq (label_pool l) 1) 1 0
+    many : (l : EntryLabel) (ns : List ℕ) → length (made_ints l ns) ≡ cond (nat_eq (label_pool l) 1) 1 0
     many Zero ns = refl
     many (Int x) ns = refl
     many (UInt x) ns = refl
@@ -341,7 +341,7 @@ uints_put v rows i x ns pool lt row =
     ∙ ap (entry_at v) (node_here (length v.ints) (length v.uints) (count_by (λ p. nat_eq p 2) (take i (row_pools rows))) within)
     ∙ r.2 ∙ ap (λ z. UIntEntry z) value
   where
-    many : (l : Label) (ns : List ℕ) → length (made_uints l ns) ≡ cond (nat_eq (label_pool l) 2) 1 0
+    many : (l : EntryLabel) (ns : List ℕ) → length (made_uints l ns) ≡ cond (nat_eq (label_pool l) 2) 1 0
     many Zero ns = refl
     many (Int x) ns = refl
     many (UInt x) ns = refl
@@ -365,7 +365,7 @@ doubles_put v rows i x ns pool lt row =
     ∙ ap (entry_at v) (node_here (length v.ints + length v.uints) (length v.doubles) (count_by (λ p. nat_eq p 3) (take i (row_pools rows))) within)
     ∙ r.2 ∙ ap (λ z. DoubleEntry z) value
   where
-    many : (l : Label) (ns : List ℕ) → length (made_doubles l ns) ≡ cond (nat_eq (label_pool l) 3) 1 0
+    many : (l : EntryLabel) (ns : List ℕ) → length (made_doubles l ns) ≡ cond (nat_eq (label_pool l) 3) 1 0
     many Zero ns = refl
     many (Int x) ns = refl
     many (UInt x) ns = refl
@@ -389,7 +389,7 @@ strings_put v rows i x ns pool lt row =
     ∙ ap (entry_at v) (node_here (length v.ints + length v.uints + length v.doubles) (length v.strings) (count_by (λ p. nat_eq p 4) (take i (row_pools rows))) within)
     ∙ r.2 ∙ ap (λ z. TextEntry z) value
   where
-    many : (l : Label) (ns : List ℕ) → length (made_strings l ns) ≡ cond (nat_eq (label_pool l) 4) 1 0
+    many : (l : EntryLabel) (ns : List ℕ) → length (made_strings l ns) ≡ cond (nat_eq (label_pool l) 4) 1 0
     many Zero ns = refl
     many (Int x) ns = refl
     many (UInt x) ns = refl
@@ -413,7 +413,7 @@ namespaces_put v rows i k w ns pool lt row =
     ∙ ap (entry_at v) (node_here (length v.ints + length v.uints + length v.doubles + length v.strings) (length v.namespaces) (count_by (λ p. nat_eq p 5) (take i (row_pools rows))) within)
     ∙ r.2 ∙ ap (λ z. SpaceEntry (count_by (λ p. nat_eq p 5) (take i (row_pools rows))) z) value ∙ ap (λ m. SpaceEntry m (record { kind = k; name = get_or ns 0 0 })) (less (count_by (λ p. nat_eq p 5) (take i (row_pools rows))) ∙ ap (λ m. m - 1) (sym n))
   where
-    many : (l : Label) (ns : List ℕ) → length (made_spaces l ns) ≡ cond (nat_eq (label_pool l) 5) 1 0
+    many : (l : EntryLabel) (ns : List ℕ) → length (made_spaces l ns) ≡ cond (nat_eq (label_pool l) 5) 1 0
     many Zero ns = refl
     many (Int x) ns = refl
     many (UInt x) ns = refl
@@ -437,7 +437,7 @@ sets_put v rows i ns pool lt row =
     ∙ ap (entry_at v) (node_here (length v.ints + length v.uints + length v.doubles + length v.strings + length v.namespaces) (length v.sets) (count_by (λ p. nat_eq p 6) (take i (row_pools rows))) within)
     ∙ r.2 ∙ ap (λ z. SetEntry z) value
   where
-    many : (l : Label) (ns : List ℕ) → length (made_sets l ns) ≡ cond (nat_eq (label_pool l) 6) 1 0
+    many : (l : EntryLabel) (ns : List ℕ) → length (made_sets l ns) ≡ cond (nat_eq (label_pool l) 6) 1 0
     many Zero ns = refl
     many (Int x) ns = refl
     many (UInt x) ns = refl
@@ -461,7 +461,7 @@ names_put v rows i k ns pool lt row =
     ∙ ap (entry_at v) (node_here (length v.ints + length v.uints + length v.doubles + length v.strings + length v.namespaces + length v.sets) (length v.names) (count_by (λ p. nat_eq p 7) (take i (row_pools rows))) within)
     ∙ r.2 ∙ ap (λ z. NameEntry z) value
   where
-    many : (l : Label) (ns : List ℕ) → length (made_names l ns) ≡ cond (nat_eq (label_pool l) 7) 1 0
+    many : (l : EntryLabel) (ns : List ℕ) → length (made_names l ns) ≡ cond (nat_eq (label_pool l) 7) 1 0
     many Zero ns = refl
     many (Int x) ns = refl
     many (UInt x) ns = refl
@@ -472,7 +472,7 @@ names_put v rows i k ns pool lt row =
     many (Name k) ns = refl
 
 -- a row's entry stands at its number
-pub put : (v : Abc) (rows : List Row) (i : ℕ) (l : Label) (ns : List ℕ) → v.ints ≡ flat_map (λ (r : Row). made_ints r.0 r.1) rows → v.uints ≡ flat_map (λ (r : Row). made_uints r.0 r.1) rows → v.doubles ≡ flat_map (λ (r : Row). made_doubles r.0 r.1) rows → v.strings ≡ flat_map (λ (r : Row). made_strings r.0 r.1) rows → v.namespaces ≡ flat_map (λ (r : Row). made_spaces r.0 r.1) rows → v.sets ≡ flat_map (λ (r : Row). made_sets r.0 r.1) rows → v.names ≡ flat_map (λ (r : Row). made_names r.0 r.1) rows → i < length rows → get_or rows i no_row ≡ (l, ns) → entry_at v (node_for (counts_of v) l (number_among_pools (row_pools rows) i)) ≡ entry_made l ns (number_among_pools (row_pools rows) i)
+pub put : (v : Abc) (rows : List Row) (i : ℕ) (l : EntryLabel) (ns : List ℕ) → v.ints ≡ flat_map (λ (r : Row). made_ints r.0 r.1) rows → v.uints ≡ flat_map (λ (r : Row). made_uints r.0 r.1) rows → v.doubles ≡ flat_map (λ (r : Row). made_doubles r.0 r.1) rows → v.strings ≡ flat_map (λ (r : Row). made_strings r.0 r.1) rows → v.namespaces ≡ flat_map (λ (r : Row). made_spaces r.0 r.1) rows → v.sets ≡ flat_map (λ (r : Row). made_sets r.0 r.1) rows → v.names ≡ flat_map (λ (r : Row). made_names r.0 r.1) rows → i < length rows → get_or rows i no_row ≡ (l, ns) → entry_at v (node_for (counts_of v) l (number_among_pools (row_pools rows) i)) ≡ entry_made l ns (number_among_pools (row_pools rows) i)
 put v rows i Zero ns e1 e2 e3 e4 e5 e6 e7 lt row = refl
 put v rows i (Int x) ns e1 e2 e3 e4 e5 e6 e7 lt row = ints_put v rows i x ns e1 lt row
 put v rows i (UInt x) ns e1 e2 e3 e4 e5 e6 e7 lt row = uints_put v rows i x ns e2 lt row
@@ -485,7 +485,7 @@ put v rows i (Name k) ns e1 e2 e3 e4 e5 e6 e7 lt row = names_put v rows i k ns e
 -- ---- how large a number is
 
 -- how many entries the pool of a label has
-abbrev pub size_for : Counts → Label → ℕ
+abbrev pub size_for : Counts → EntryLabel → ℕ
 size_for c Zero = 0
 size_for c (Int x) = c.ints
 size_for c (UInt x) = c.uints
@@ -495,7 +495,7 @@ size_for c (Space k w) = c.namespaces
 size_for c Set = c.sets
 size_for c (Name k) = c.names
 
-few_added : {B : Type 0} (made : Label → List ℕ → List B) (q : ℕ) → ((l : Label) (ns : List ℕ) → length (made l ns) ≡ cond (nat_eq (label_pool l) q) 1 0) → (rows : List Row) (i : ℕ) (z : B) → i < length rows → made (get_or rows i no_row).0 (get_or rows i no_row).1 ≡ z ∷ [] → label_pool (get_or rows i no_row).0 ≡ q → nat_eq q 0 ≡ false → nat_eq q q ≡ true → number_among_pools (row_pools rows) i ≤ length (flat_map (λ (r : Row). made r.0 r.1) rows)
+few_added : {B : Type 0} (made : EntryLabel → List ℕ → List B) (q : ℕ) → ((l : EntryLabel) (ns : List ℕ) → length (made l ns) ≡ cond (nat_eq (label_pool l) q) 1 0) → (rows : List Row) (i : ℕ) (z : B) → i < length rows → made (get_or rows i no_row).0 (get_or rows i no_row).1 ≡ z ∷ [] → label_pool (get_or rows i no_row).0 ≡ q → nat_eq q 0 ≡ false → nat_eq q q ≡ true → number_among_pools (row_pools rows) i ≤ length (flat_map (λ (r : Row). made r.0 r.1) rows)
 few_added made q many rows i z lt e at zero_not same =
     let pool : get_or (row_pools rows) i 0 ≡ q = get_row rows i ∙ at in
     let n : number_among_pools (row_pools rows) i ≡ suc (count_by (λ p. nat_eq p q) (take i (row_pools rows))) =
@@ -503,7 +503,7 @@ few_added made q many rows i z lt e at zero_not same =
     let within = slice_within (flat_map (λ (r : Row). made r.0 r.1) rows) (count_by (λ p. nat_eq p q) (take i (row_pools rows))) z (added made q many rows i z lt e) in
     omega (arith, n, within)
 
-ints_many : (l : Label) (ns : List ℕ) → length (made_ints l ns) ≡ cond (nat_eq (label_pool l) 1) 1 0
+ints_many : (l : EntryLabel) (ns : List ℕ) → length (made_ints l ns) ≡ cond (nat_eq (label_pool l) 1) 1 0
 ints_many Zero ns = refl
 ints_many (Int x) ns = refl
 ints_many (UInt x) ns = refl
@@ -513,7 +513,7 @@ ints_many (Space k n) ns = refl
 ints_many Set ns = refl
 ints_many (Name k) ns = refl
 
-uints_many : (l : Label) (ns : List ℕ) → length (made_uints l ns) ≡ cond (nat_eq (label_pool l) 2) 1 0
+uints_many : (l : EntryLabel) (ns : List ℕ) → length (made_uints l ns) ≡ cond (nat_eq (label_pool l) 2) 1 0
 uints_many Zero ns = refl
 uints_many (Int x) ns = refl
 uints_many (UInt x) ns = refl
@@ -523,7 +523,7 @@ uints_many (Space k n) ns = refl
 uints_many Set ns = refl
 uints_many (Name k) ns = refl
 
-doubles_many : (l : Label) (ns : List ℕ) → length (made_doubles l ns) ≡ cond (nat_eq (label_pool l) 3) 1 0
+doubles_many : (l : EntryLabel) (ns : List ℕ) → length (made_doubles l ns) ≡ cond (nat_eq (label_pool l) 3) 1 0
 doubles_many Zero ns = refl
 doubles_many (Int x) ns = refl
 doubles_many (UInt x) ns = refl
@@ -533,7 +533,7 @@ doubles_many (Space k n) ns = refl
 doubles_many Set ns = refl
 doubles_many (Name k) ns = refl
 
-strings_many : (l : Label) (ns : List ℕ) → length (made_strings l ns) ≡ cond (nat_eq (label_pool l) 4) 1 0
+strings_many : (l : EntryLabel) (ns : List ℕ) → length (made_strings l ns) ≡ cond (nat_eq (label_pool l) 4) 1 0
 strings_many Zero ns = refl
 strings_many (Int x) ns = refl
 strings_many (UInt x) ns = refl
@@ -543,7 +543,7 @@ strings_many (Space k n) ns = refl
 strings_many Set ns = refl
 strings_many (Name k) ns = refl
 
-namespaces_many : (l : Label) (ns : List ℕ) → length (made_spaces l ns) ≡ cond (nat_eq (label_pool l) 5) 1 0
+namespaces_many : (l : EntryLabel) (ns : List ℕ) → length (made_spaces l ns) ≡ cond (nat_eq (label_pool l) 5) 1 0
 namespaces_many Zero ns = refl
 namespaces_many (Int x) ns = refl
 namespaces_many (UInt x) ns = refl
@@ -553,7 +553,7 @@ namespaces_many (Space k n) ns = refl
 namespaces_many Set ns = refl
 namespaces_many (Name k) ns = refl
 
-sets_many : (l : Label) (ns : List ℕ) → length (made_sets l ns) ≡ cond (nat_eq (label_pool l) 6) 1 0
+sets_many : (l : EntryLabel) (ns : List ℕ) → length (made_sets l ns) ≡ cond (nat_eq (label_pool l) 6) 1 0
 sets_many Zero ns = refl
 sets_many (Int x) ns = refl
 sets_many (UInt x) ns = refl
@@ -563,7 +563,7 @@ sets_many (Space k n) ns = refl
 sets_many Set ns = refl
 sets_many (Name k) ns = refl
 
-names_many : (l : Label) (ns : List ℕ) → length (made_names l ns) ≡ cond (nat_eq (label_pool l) 7) 1 0
+names_many : (l : EntryLabel) (ns : List ℕ) → length (made_names l ns) ≡ cond (nat_eq (label_pool l) 7) 1 0
 names_many Zero ns = refl
 names_many (Int x) ns = refl
 names_many (UInt x) ns = refl
@@ -573,7 +573,7 @@ names_many (Space k n) ns = refl
 names_many Set ns = refl
 names_many (Name k) ns = refl
 
-pub few : (v : Abc) (rows : List Row) (i : ℕ) (l : Label) (ns : List ℕ) → v.ints ≡ flat_map (λ (r : Row). made_ints r.0 r.1) rows → v.uints ≡ flat_map (λ (r : Row). made_uints r.0 r.1) rows → v.doubles ≡ flat_map (λ (r : Row). made_doubles r.0 r.1) rows → v.strings ≡ flat_map (λ (r : Row). made_strings r.0 r.1) rows → v.namespaces ≡ flat_map (λ (r : Row). made_spaces r.0 r.1) rows → v.sets ≡ flat_map (λ (r : Row). made_sets r.0 r.1) rows → v.names ≡ flat_map (λ (r : Row). made_names r.0 r.1) rows → i < length rows → get_or rows i no_row ≡ (l, ns) → number_among_pools (row_pools rows) i ≤ size_for (counts_of v) l
+pub few : (v : Abc) (rows : List Row) (i : ℕ) (l : EntryLabel) (ns : List ℕ) → v.ints ≡ flat_map (λ (r : Row). made_ints r.0 r.1) rows → v.uints ≡ flat_map (λ (r : Row). made_uints r.0 r.1) rows → v.doubles ≡ flat_map (λ (r : Row). made_doubles r.0 r.1) rows → v.strings ≡ flat_map (λ (r : Row). made_strings r.0 r.1) rows → v.namespaces ≡ flat_map (λ (r : Row). made_spaces r.0 r.1) rows → v.sets ≡ flat_map (λ (r : Row). made_sets r.0 r.1) rows → v.names ≡ flat_map (λ (r : Row). made_names r.0 r.1) rows → i < length rows → get_or rows i no_row ≡ (l, ns) → number_among_pools (row_pools rows) i ≤ size_for (counts_of v) l
 few v rows i Zero ns e1 e2 e3 e4 e5 e6 e7 lt row =
     let pool : get_or (row_pools rows) i 0 ≡ 0 = get_row rows i ∙ ap (λ (r : Row). label_pool r.0) row in
     let n : number_among_pools (row_pools rows) i ≡ 0 = ap (λ p. if nat_eq p 0 then 0 else count_by (λ q. nat_eq q p) (take (i + 1) (row_pools rows))) pool in
@@ -586,7 +586,7 @@ few v rows i (Space k w) ns e1 e2 e3 e4 e5 e6 e7 lt row = subst (λ (l : List Na
 few v rows i Set ns e1 e2 e3 e4 e5 e6 e7 lt row = subst (λ (l : List (List ℕ)). number_among_pools (row_pools rows) i ≤ length l) (sym e6) (few_added made_sets 6 sets_many rows i ns lt (ap (λ (r : Row). made_sets r.0 r.1) row) (ap (λ (r : Row). label_pool r.0) row) refl refl)
 few v rows i (Name k) ns e1 e2 e3 e4 e5 e6 e7 lt row = subst (λ (l : List Multiname). number_among_pools (row_pools rows) i ≤ length l) (sym e7) (few_added made_names 7 names_many rows i (made_name k ns) lt (ap (λ (r : Row). made_names r.0 r.1) row) (ap (λ (r : Row). label_pool r.0) row) refl refl)
 
-pub ints_sized : (v : Abc) (d : Counts) (ps : List ℕ) (num : ℕ → ℕ) (i : ℕ) → (node_of (counts_of v) pools.Int i ≡ 0 → num 0 ≡ 0) → num (node_of (counts_of v) pools.Int i) ≤ size_for d (label ps (entry_at v (node_of (counts_of v) pools.Int i))) → num (node_of (counts_of v) pools.Int i) ≤ d.ints
+pub ints_sized : (v : Abc) (d : Counts) (ps : List ℕ) (num : ℕ → ℕ) (i : ℕ) → (node_of (counts_of v) pools.Int i ≡ 0 → num 0 ≡ 0) → num (node_of (counts_of v) pools.Int i) ≤ size_for d (label_of_entry ps (entry_at v (node_of (counts_of v) pools.Int i))) → num (node_of (counts_of v) pools.Int i) ≤ d.ints
 ints_sized v d ps num i zero_is few_is = go (node_cases 0 (length v.ints) i)
   where
     go : ((node_of (counts_of v) pools.Int i) ≡ 0) ⊎ ((j : ℕ) × (j < length v.ints) × ((node_of (counts_of v) pools.Int i) ≡ 0 + suc j)) → num (node_of (counts_of v) pools.Int i) ≤ d.ints
@@ -594,9 +594,9 @@ ints_sized v d ps num i zero_is few_is = go (node_cases 0 (length v.ints) i)
     go (inr (j, lt, e)) =
         let r = ints_there v j lt in
         let at : entry_at v (node_of (counts_of v) pools.Int i) ≡ IntEntry r.0 = ap (entry_at v) (e ∙ zero_plus j) ∙ r.2 in
-        subst (λ x. num (node_of (counts_of v) pools.Int i) ≤ size_for d (label ps x)) at few_is
+        subst (λ x. num (node_of (counts_of v) pools.Int i) ≤ size_for d (label_of_entry ps x)) at few_is
 
-pub uints_sized : (v : Abc) (d : Counts) (ps : List ℕ) (num : ℕ → ℕ) (i : ℕ) → (node_of (counts_of v) pools.UInt i ≡ 0 → num 0 ≡ 0) → num (node_of (counts_of v) pools.UInt i) ≤ size_for d (label ps (entry_at v (node_of (counts_of v) pools.UInt i))) → num (node_of (counts_of v) pools.UInt i) ≤ d.uints
+pub uints_sized : (v : Abc) (d : Counts) (ps : List ℕ) (num : ℕ → ℕ) (i : ℕ) → (node_of (counts_of v) pools.UInt i ≡ 0 → num 0 ≡ 0) → num (node_of (counts_of v) pools.UInt i) ≤ size_for d (label_of_entry ps (entry_at v (node_of (counts_of v) pools.UInt i))) → num (node_of (counts_of v) pools.UInt i) ≤ d.uints
 uints_sized v d ps num i zero_is few_is = go (node_cases (length v.ints) (length v.uints) i)
   where
     go : ((node_of (counts_of v) pools.UInt i) ≡ 0) ⊎ ((j : ℕ) × (j < length v.uints) × ((node_of (counts_of v) pools.UInt i) ≡ (length v.ints) + suc j)) → num (node_of (counts_of v) pools.UInt i) ≤ d.uints
@@ -604,9 +604,9 @@ uints_sized v d ps num i zero_is few_is = go (node_cases (length v.ints) (length
     go (inr (j, lt, e)) =
         let r = uints_there v j lt in
         let at : entry_at v (node_of (counts_of v) pools.UInt i) ≡ UIntEntry r.0 = ap (entry_at v) e ∙ r.2 in
-        subst (λ x. num (node_of (counts_of v) pools.UInt i) ≤ size_for d (label ps x)) at few_is
+        subst (λ x. num (node_of (counts_of v) pools.UInt i) ≤ size_for d (label_of_entry ps x)) at few_is
 
-pub doubles_sized : (v : Abc) (d : Counts) (ps : List ℕ) (num : ℕ → ℕ) (i : ℕ) → (node_of (counts_of v) pools.Double i ≡ 0 → num 0 ≡ 0) → num (node_of (counts_of v) pools.Double i) ≤ size_for d (label ps (entry_at v (node_of (counts_of v) pools.Double i))) → num (node_of (counts_of v) pools.Double i) ≤ d.doubles
+pub doubles_sized : (v : Abc) (d : Counts) (ps : List ℕ) (num : ℕ → ℕ) (i : ℕ) → (node_of (counts_of v) pools.Double i ≡ 0 → num 0 ≡ 0) → num (node_of (counts_of v) pools.Double i) ≤ size_for d (label_of_entry ps (entry_at v (node_of (counts_of v) pools.Double i))) → num (node_of (counts_of v) pools.Double i) ≤ d.doubles
 doubles_sized v d ps num i zero_is few_is = go (node_cases (length v.ints + length v.uints) (length v.doubles) i)
   where
     go : ((node_of (counts_of v) pools.Double i) ≡ 0) ⊎ ((j : ℕ) × (j < length v.doubles) × ((node_of (counts_of v) pools.Double i) ≡ (length v.ints + length v.uints) + suc j)) → num (node_of (counts_of v) pools.Double i) ≤ d.doubles
@@ -614,9 +614,9 @@ doubles_sized v d ps num i zero_is few_is = go (node_cases (length v.ints + leng
     go (inr (j, lt, e)) =
         let r = doubles_there v j lt in
         let at : entry_at v (node_of (counts_of v) pools.Double i) ≡ DoubleEntry r.0 = ap (entry_at v) e ∙ r.2 in
-        subst (λ x. num (node_of (counts_of v) pools.Double i) ≤ size_for d (label ps x)) at few_is
+        subst (λ x. num (node_of (counts_of v) pools.Double i) ≤ size_for d (label_of_entry ps x)) at few_is
 
-pub strings_sized : (v : Abc) (d : Counts) (ps : List ℕ) (num : ℕ → ℕ) (i : ℕ) → (node_of (counts_of v) pools.Text i ≡ 0 → num 0 ≡ 0) → num (node_of (counts_of v) pools.Text i) ≤ size_for d (label ps (entry_at v (node_of (counts_of v) pools.Text i))) → num (node_of (counts_of v) pools.Text i) ≤ d.strings
+pub strings_sized : (v : Abc) (d : Counts) (ps : List ℕ) (num : ℕ → ℕ) (i : ℕ) → (node_of (counts_of v) pools.Text i ≡ 0 → num 0 ≡ 0) → num (node_of (counts_of v) pools.Text i) ≤ size_for d (label_of_entry ps (entry_at v (node_of (counts_of v) pools.Text i))) → num (node_of (counts_of v) pools.Text i) ≤ d.strings
 strings_sized v d ps num i zero_is few_is = go (node_cases (length v.ints + length v.uints + length v.doubles) (length v.strings) i)
   where
     go : ((node_of (counts_of v) pools.Text i) ≡ 0) ⊎ ((j : ℕ) × (j < length v.strings) × ((node_of (counts_of v) pools.Text i) ≡ (length v.ints + length v.uints + length v.doubles) + suc j)) → num (node_of (counts_of v) pools.Text i) ≤ d.strings
@@ -624,9 +624,9 @@ strings_sized v d ps num i zero_is few_is = go (node_cases (length v.ints + leng
     go (inr (j, lt, e)) =
         let r = strings_there v j lt in
         let at : entry_at v (node_of (counts_of v) pools.Text i) ≡ TextEntry r.0 = ap (entry_at v) e ∙ r.2 in
-        subst (λ x. num (node_of (counts_of v) pools.Text i) ≤ size_for d (label ps x)) at few_is
+        subst (λ x. num (node_of (counts_of v) pools.Text i) ≤ size_for d (label_of_entry ps x)) at few_is
 
-pub namespaces_sized : (v : Abc) (d : Counts) (ps : List ℕ) (num : ℕ → ℕ) (i : ℕ) → (node_of (counts_of v) pools.Space i ≡ 0 → num 0 ≡ 0) → num (node_of (counts_of v) pools.Space i) ≤ size_for d (label ps (entry_at v (node_of (counts_of v) pools.Space i))) → num (node_of (counts_of v) pools.Space i) ≤ d.namespaces
+pub namespaces_sized : (v : Abc) (d : Counts) (ps : List ℕ) (num : ℕ → ℕ) (i : ℕ) → (node_of (counts_of v) pools.Space i ≡ 0 → num 0 ≡ 0) → num (node_of (counts_of v) pools.Space i) ≤ size_for d (label_of_entry ps (entry_at v (node_of (counts_of v) pools.Space i))) → num (node_of (counts_of v) pools.Space i) ≤ d.namespaces
 namespaces_sized v d ps num i zero_is few_is = go (node_cases (length v.ints + length v.uints + length v.doubles + length v.strings) (length v.namespaces) i)
   where
     go : ((node_of (counts_of v) pools.Space i) ≡ 0) ⊎ ((j : ℕ) × (j < length v.namespaces) × ((node_of (counts_of v) pools.Space i) ≡ (length v.ints + length v.uints + length v.doubles + length v.strings) + suc j)) → num (node_of (counts_of v) pools.Space i) ≤ d.namespaces
@@ -634,9 +634,9 @@ namespaces_sized v d ps num i zero_is few_is = go (node_cases (length v.ints + l
     go (inr (j, lt, e)) =
         let r = namespaces_there v j lt in
         let at : entry_at v (node_of (counts_of v) pools.Space i) ≡ SpaceEntry j r.0 = ap (entry_at v) e ∙ r.2 in
-        subst (λ x. num (node_of (counts_of v) pools.Space i) ≤ size_for d (label ps x)) at few_is
+        subst (λ x. num (node_of (counts_of v) pools.Space i) ≤ size_for d (label_of_entry ps x)) at few_is
 
-pub names_sized : (v : Abc) (d : Counts) (ps : List ℕ) (num : ℕ → ℕ) (i : ℕ) → (node_of (counts_of v) pools.Name i ≡ 0 → num 0 ≡ 0) → num (node_of (counts_of v) pools.Name i) ≤ size_for d (label ps (entry_at v (node_of (counts_of v) pools.Name i))) → num (node_of (counts_of v) pools.Name i) ≤ d.names
+pub names_sized : (v : Abc) (d : Counts) (ps : List ℕ) (num : ℕ → ℕ) (i : ℕ) → (node_of (counts_of v) pools.Name i ≡ 0 → num 0 ≡ 0) → num (node_of (counts_of v) pools.Name i) ≤ size_for d (label_of_entry ps (entry_at v (node_of (counts_of v) pools.Name i))) → num (node_of (counts_of v) pools.Name i) ≤ d.names
 names_sized v d ps num i zero_is few_is = go (node_cases (length v.ints + length v.uints + length v.doubles + length v.strings + length v.namespaces + length v.sets) (length v.names) i)
   where
     go : ((node_of (counts_of v) pools.Name i) ≡ 0) ⊎ ((j : ℕ) × (j < length v.names) × ((node_of (counts_of v) pools.Name i) ≡ (length v.ints + length v.uints + length v.doubles + length v.strings + length v.namespaces + length v.sets) + suc j)) → num (node_of (counts_of v) pools.Name i) ≤ d.names
@@ -644,4 +644,4 @@ names_sized v d ps num i zero_is few_is = go (node_cases (length v.ints + length
     go (inr (j, lt, e)) =
         let r = names_there v j lt in
         let at : entry_at v (node_of (counts_of v) pools.Name i) ≡ NameEntry r.0 = ap (entry_at v) e ∙ r.2 in
-        subst (λ x. num (node_of (counts_of v) pools.Name i) ≤ size_for d (label ps x)) at few_is
+        subst (λ x. num (node_of (counts_of v) pools.Name i) ≤ size_for d (label_of_entry ps x)) at few_is

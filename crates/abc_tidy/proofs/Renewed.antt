@@ -2,8 +2,8 @@
 use Rattle.std.proofs.Common.{◌≡◌, ℕ, List, [], ◌∷◌, ◌++◌, map, Some, None, Option, option_map, flat_map, refl, sym, ap, subst, ◌∙◌}
 use Rattle.std.proofs.lemmas.List.{map-append}
 use Rattle.abc_tidy_refs.specs.declared.refs.Ref.{Ref}
-use Rattle.abc_tidy_refs.specs.Refs.{body_refs, class_refs, each, file_refs, handler_refs, instance_refs, instr_refs, metadata_refs, method_refs, operand_pool, option_refs, protected_refs, ref, script_refs, trait_body_refs, trait_refs, value_pool, value_refs}
-use Rattle.abc_tidy_refs.specs.Renumbered.{Renumbering, beside, new_body, new_class, new_file, new_handler, new_instance, new_instr, new_metadata, new_method, new_option, new_script, new_trait, new_trait_body}
+use Rattle.abc_tidy_refs.specs.Refs.{body_refs, class_refs, refs_of, file_refs, handler_refs, instance_refs, instr_refs, metadata_refs, method_refs, operand_pool, option_refs, protected_refs, ref, script_refs, trait_body_refs, trait_refs, value_pool, value_refs}
+use Rattle.abc_tidy_refs.specs.Renumbered.{Renumbering, beside, new_body, renumbered_class, new_file, new_handler, renumbered_instance, new_instr, new_metadata, new_method, new_option, new_script, new_trait, new_trait_body}
 use Rattle.abc_file_types.specs.declared.classes.ClassInfo.{ClassInfo}
 use Rattle.abc_file_types.specs.declared.classes.Instance.{Instance}
 use Rattle.abc_file_types.specs.declared.classes.Script.{Script}
@@ -36,7 +36,7 @@ module _ (f : Renumbering) where
       let rest : flat_map refs (map new xs) ≡ map renewed (flat_map refs xs) = list new refs xs e in
       (λ i. first i ++ rest i) ∙ sym (map-append renewed (refs x) (flat_map refs xs))
 
-  ones : (pool : Pool) (xs : List ℕ) → each pool (map (f pool) xs) ≡ map renewed (each pool xs)
+  ones : (pool : Pool) (xs : List ℕ) → refs_of pool (map (f pool) xs) ≡ map renewed (refs_of pool xs)
   ones pool xs = same_maps (ref pool) (f pool) renewed (ref pool) xs (λ x. refl)
 
   two : (a b : List Ref) → map renewed a ++ map renewed b ≡ map renewed (a ++ b)
@@ -54,10 +54,10 @@ module _ (f : Renumbering) where
   method : (m : Method) → method_refs (new_method f m) ≡ map renewed (method_refs m)
   method m =
       (λ i. map renewed (ref pools.Name m.ret ∷ []) ++ ones pools.Name m.params i ++ map renewed (ref pools.Text m.name ∷ []) ++ list (new_option f) option_refs m.options (λ o. refl) i ++ ones pools.Text m.param_names i)
-      ∙ five (ref pools.Name m.ret ∷ []) (each pools.Name m.params) (ref pools.Text m.name ∷ []) (flat_map option_refs m.options) (each pools.Text m.param_names)
+      ∙ five (ref pools.Name m.ret ∷ []) (refs_of pools.Name m.params) (ref pools.Text m.name ∷ []) (flat_map option_refs m.options) (refs_of pools.Text m.param_names)
 
   metadata : (m : Metadata) → metadata_refs (new_metadata f m) ≡ map renewed (metadata_refs m)
-  metadata m = ap (λ l. map renewed (ref pools.Text m.name ∷ []) ++ l) (ones pools.Text m.items) ∙ two (ref pools.Text m.name ∷ []) (each pools.Text m.items)
+  metadata m = ap (λ l. map renewed (ref pools.Text m.name ∷ []) ++ l) (ones pools.Text m.items) ∙ two (ref pools.Text m.name ∷ []) (refs_of pools.Text m.items)
 
   optional : (o : Option OptionValue) → value_refs (option_map (new_option f) o) ≡ map renewed (value_refs o)
   optional None = refl
@@ -81,12 +81,12 @@ module _ (f : Renumbering) where
   traits : (ts : List TraitInfo) → flat_map trait_refs (map (new_trait f) ts) ≡ map renewed (flat_map trait_refs ts)
   traits ts = list (new_trait f) trait_refs ts trait
 
-  instance : (x : Instance) → instance_refs (new_instance f x) ≡ map renewed (instance_refs x)
+  instance : (x : Instance) → instance_refs (renumbered_instance f x) ≡ map renewed (instance_refs x)
   instance x =
       (λ i. map renewed (ref pools.Name x.name ∷ []) ++ map renewed (ref pools.Name x.super_name ∷ []) ++ protected x.protected_ns i ++ ones pools.Name x.interfaces i ++ traits x.traits i)
-      ∙ five (ref pools.Name x.name ∷ []) (ref pools.Name x.super_name ∷ []) (protected_refs x.protected_ns) (each pools.Name x.interfaces) (flat_map trait_refs x.traits)
+      ∙ five (ref pools.Name x.name ∷ []) (ref pools.Name x.super_name ∷ []) (protected_refs x.protected_ns) (refs_of pools.Name x.interfaces) (flat_map trait_refs x.traits)
 
-  class : (c : ClassInfo) → class_refs (new_class f c) ≡ map renewed (class_refs c)
+  class : (c : ClassInfo) → class_refs (renumbered_class f c) ≡ map renewed (class_refs c)
   class c = traits c.traits
 
   script : (s : Script) → script_refs (new_script f s) ≡ map renewed (script_refs s)
@@ -110,8 +110,8 @@ module _ (f : Renumbering) where
 
   pub refs_renewed : (v : Abc) → file_refs (new_file f v) ≡ map renewed (file_refs v)
   refs_renewed v =
-      (λ i. list (new_method f) method_refs v.methods method i ++ list (new_metadata f) metadata_refs v.metadata metadata i ++ list (new_instance f) instance_refs v.instances instance i
-      ++ list (new_class f) class_refs v.classes class i ++ list (new_script f) script_refs v.scripts script i ++ list (new_body f) body_refs v.bodies body i)
+      (λ i. list (new_method f) method_refs v.methods method i ++ list (new_metadata f) metadata_refs v.metadata metadata i ++ list (renumbered_instance f) instance_refs v.instances instance i
+      ++ list (renumbered_class f) class_refs v.classes class i ++ list (new_script f) script_refs v.scripts script i ++ list (new_body f) body_refs v.bodies body i)
       ∙ six (flat_map method_refs v.methods) (flat_map metadata_refs v.metadata) (flat_map instance_refs v.instances) (flat_map class_refs v.classes) (flat_map script_refs v.scripts) (flat_map body_refs v.bodies)
 
 -- ---- numbers twice
@@ -154,7 +154,7 @@ module _ (g f h : Renumbering) (is : (pool : Pool) (i : ℕ) → g pool (f pool 
   traits_twice : (ts : List TraitInfo) → map (new_trait g) (map (new_trait f) ts) ≡ map (new_trait h) ts
   traits_twice ts = all (new_trait g) (new_trait f) (new_trait h) ts trait_twice
 
-  instance_twice : (x : Instance) → new_instance g (new_instance f x) ≡ new_instance h x
+  instance_twice : (x : Instance) → renumbered_instance g (renumbered_instance f x) ≡ renumbered_instance h x
   instance_twice x = λ i. record {
     name = is pools.Name x.name i;
     super_name = is pools.Name x.super_name i;
@@ -165,7 +165,7 @@ module _ (g f h : Renumbering) (is : (pool : Pool) (i : ℕ) → g pool (f pool 
     traits = traits_twice x.traits i;
   }
 
-  class_twice : (c : ClassInfo) → new_class g (new_class f c) ≡ new_class h c
+  class_twice : (c : ClassInfo) → renumbered_class g (renumbered_class f c) ≡ renumbered_class h c
   class_twice c = λ i. record { cinit = c.cinit; traits = traits_twice c.traits i }
 
   script_twice : (s : Script) → new_script g (new_script f s) ≡ new_script h s
@@ -201,8 +201,8 @@ module _ (g f h : Renumbering) (is : (pool : Pool) (i : ℕ) → g pool (f pool 
   twice v = λ i. record empty {
     methods = all (new_method g) (new_method f) (new_method h) v.methods method_twice i;
     metadata = all (new_metadata g) (new_metadata f) (new_metadata h) v.metadata metadata_twice i;
-    instances = all (new_instance g) (new_instance f) (new_instance h) v.instances instance_twice i;
-    classes = all (new_class g) (new_class f) (new_class h) v.classes class_twice i;
+    instances = all (renumbered_instance g) (renumbered_instance f) (renumbered_instance h) v.instances instance_twice i;
+    classes = all (renumbered_class g) (renumbered_class f) (renumbered_class h) v.classes class_twice i;
     scripts = all (new_script g) (new_script f) (new_script h) v.scripts script_twice i;
     bodies = all (new_body g) (new_body f) (new_body h) v.bodies body_twice i;
   }

@@ -1,24 +1,24 @@
 -- Things are the trees of nodes with values in place of places, and files with equal things have trees that are alike.
 use Rattle.std.proofs.Common.{◌≡◌, ℕ, zero, suc, ◌⊎◌, inl, inr, List, [], ◌∷◌, ◌++◌, map, get_or, drop, nat_eq, Bool, true, false, if◌then◌else◌, eq-eqb, refl, sym, ap, subst, ◌∙◌, true≢false}
 use Rattle.std.specs.List.{flat_map}
-use Rattle.abc_base_graphs.specs.Graph.{targets}
+use Rattle.abc_base_graphs.specs.Graph.{leads_to}
 use Rattle.abc_tidy_refs.specs.Nodes.{counts_of}
 use Rattle.abc_file_types.specs.declared.names.NsKind.{NsKind}
 use Rattle.abc_file_types.specs.declared.names.NsKind.TheVariants as spaces
 use Rattle.abc_file_types.specs.declared.tables.Abc.{Abc}
 use Rattle.abc_file_types.specs.Pools.{namespace_code}
 use Rattle.abc_base_trees.specs.declared.heads.Head.{Head}
-use Rattle.abc_base_trees.specs.Trees.{Tree, Leaf, Apply, AreTrees, NoTrees, OneMore, Grows, Done, More, IsTree, head, head_eq}
+use Rattle.abc_base_trees.specs.Trees.{Tree, Leaf, Apply, AreTrees, NoTrees, OneMore, GrowsTrees, Done, More, IsTree, head_of_tree, head_eq}
 use Rattle.abc_base_trees.specs.Visits.{visit_all}
 use Rattle.abc_base_trees.proofs.TreeLaws.{leaf_same, one_tree, trees_refl, trees_same}
-use Rattle.abc_tidy_entries.specs.Entries.{graph_of, heads_of, space_value}
+use Rattle.abc_tidy_entries.specs.Entries.{graph_of, heads_of, space_told}
 use Rattle.abc_tidy.specs.Free.{private_place, privates_among, root}
-use Rattle.abc_tidy.specs.Things.{AreThings, NoThings, OneThing, Entry, NoEntry, IntEntry, UIntEntry, DoubleEntry, TextEntry, SpaceEntry, SetEntry, NameEntry, IsThing, Joined, Whole, Under, Label, Zero, Thing, Alone, With, entry_at, label, parts}
+use Rattle.abc_tidy.specs.Things.{AreThings, NoThings, OneThing, Entry, NoEntry, IntEntry, UIntEntry, DoubleEntry, TextEntry, SpaceEntry, SetEntry, NameEntry, IsThing, Joined, Whole, Under, EntryLabel, Zero, Thing, Alone, With, entry_at, label_of_entry, parts}
 use Rattle.abc_tidy.proofs.Alike.{Alike, OneToOne, tree_parts}
 use Rattle.abc_tidy.proofs.Closed.{gained, node_root, parts_met, rooted_met}
 use Rattle.abc_tidy.proofs.Entered.{entry_head, head_at, targets_at}
 use Rattle.abc_tidy.proofs.Labelled.{Fine, FineSpace, head_found, head_of, label_found, label_of}
-use Rattle.abc_base_trees.specs.Orders.{In}
+use Rattle.abc_base_trees.specs.Orders.{StandsIn}
 use Rattle.abc_tidy.proofs.Lists.{Pairs, in_left, in_right}
 
 -- ---- one thing, and one list of trees
@@ -42,19 +42,19 @@ abbrev pub thing_of : Abc → List ℕ → Tree → Thing
 thing_of v privates (Leaf h) = Alone (label_of v privates h)
 thing_of v privates (Apply t part) = With (thing_of v privates t) (thing_of v privates part)
 
-pub label_at : (v : Abc) (privates : List ℕ) (x : ℕ) → label_of v privates (head (heads_of v) x) ≡ label privates (entry_at v x)
+pub label_at : (v : Abc) (privates : List ℕ) (x : ℕ) → label_of v privates (head_of_tree (heads_of v) x) ≡ label_of_entry privates (entry_at v x)
 label_at v privates x = ap (label_of v privates) (head_at v x) ∙ label_found v privates x
 
-joined : (v : Abc) (privates : List ℕ) {xs : List ℕ} {t u : Tree} → Grows (heads_of v) (graph_of v) xs t u → Joined v privates xs (thing_of v privates t) (thing_of v privates u)
+joined : (v : Abc) (privates : List ℕ) {xs : List ℕ} {t u : Tree} → GrowsTrees (heads_of v) (graph_of v) xs t u → Joined v privates xs (thing_of v privates t) (thing_of v privates u)
 joined v privates Done = Whole
 joined v privates (More {x = x} {part = part} p g) =
-    Under (subst (λ ys. Joined v privates ys (Alone (label privates (entry_at v x))) (thing_of v privates part)) (targets_at v x)
-    (subst (λ l. Joined v privates (targets (graph_of v) x) (Alone l) (thing_of v privates part)) (label_at v privates x) (joined v privates p))) (joined v privates g)
+    Under (subst (λ ys. Joined v privates ys (Alone (label_of_entry privates (entry_at v x))) (thing_of v privates part)) (targets_at v x)
+    (subst (λ l. Joined v privates (leads_to (graph_of v) x) (Alone l) (thing_of v privates part)) (label_at v privates x) (joined v privates p))) (joined v privates g)
 
 pub is_thing : (v : Abc) (privates : List ℕ) (x : ℕ) (t : Tree) → IsTree (heads_of v) (graph_of v) x t → IsThing v privates x (thing_of v privates t)
 is_thing v privates x t g =
-    subst (λ ys. Joined v privates ys (Alone (label privates (entry_at v x))) (thing_of v privates t)) (targets_at v x)
-    (subst (λ l. Joined v privates (targets (graph_of v) x) (Alone l) (thing_of v privates t)) (label_at v privates x) (joined v privates g))
+    subst (λ ys. Joined v privates ys (Alone (label_of_entry privates (entry_at v x))) (thing_of v privates t)) (targets_at v x)
+    (subst (λ l. Joined v privates (leads_to (graph_of v) x) (Alone l) (thing_of v privates t)) (label_at v privates x) (joined v privates g))
 
 pub are_things : (v : Abc) (privates : List ℕ) {xs : List ℕ} {ts : List Tree} → AreTrees (heads_of v) (graph_of v) xs ts → AreThings v privates xs (map (thing_of v privates) ts)
 are_things v privates NoTrees = NoThings
@@ -66,16 +66,16 @@ abbrev pub Sound : Abc → List ℕ → Tree → Type 0
 Sound v privates (Leaf h) = head_of v privates (label_of v privates h) ≡ h
 Sound v privates (Apply t part) = Sound v privates t × Sound v privates part
 
-in_privates : (all : List Tree) (t : Tree) → In t all → nat_eq (root t).kind (namespace_code spaces.Private) ≡ true → In (root t).value (privates_among all)
+in_privates : (all : List Tree) (t : Tree) → StandsIn t all → nat_eq (root t).kind (namespace_code spaces.Private) ≡ true → StandsIn (root t).value (privates_among all)
 in_privates [] t h e = absurd h
 in_privates (s ∷ all) t (inl same) e =
-    subst (λ u. In (root t).value (private_place u ++ privates_among all)) same
+    subst (λ u. StandsIn (root t).value (private_place u ++ privates_among all)) same
     (in_left (private_place t) (privates_among all) (root t).value
-    (subst (In (root t).value) (sym (ap (λ b. if b then (root t).value ∷ [] else []) e)) (inl refl)))
+    (subst (StandsIn (root t).value) (sym (ap (λ b. if b then (root t).value ∷ [] else []) e)) (inl refl)))
 in_privates (s ∷ all) t (inr h) e = in_right (private_place s) (privates_among all) (root t).value (in_privates all t h e)
 
-fine_space : (all : List Tree) (t : Tree) (kind : NsKind) (place : ℕ) → root t ≡ record { kind = namespace_code kind; value = space_value kind place } → In t all → FineSpace (privates_among all) kind place
-fine_space all t spaces.Private place e h = subst (λ p. In p (privates_among all)) (ap (λ r. r.value) e) (in_privates all t h (ap (λ r. nat_eq r.kind (namespace_code spaces.Private)) e))
+fine_space : (all : List Tree) (t : Tree) (kind : NsKind) (place : ℕ) → root t ≡ record { kind = namespace_code kind; value = space_told kind place } → StandsIn t all → FineSpace (privates_among all) kind place
+fine_space all t spaces.Private place e h = subst (λ p. StandsIn p (privates_among all)) (ap (λ r. r.value) e) (in_privates all t h (ap (λ r. nat_eq r.kind (namespace_code spaces.Private)) e))
 fine_space all t spaces.Namespace place e h = tt
 fine_space all t spaces.Package place e h = tt
 fine_space all t spaces.PackageInternal place e h = tt
@@ -83,7 +83,7 @@ fine_space all t spaces.Protected place e h = tt
 fine_space all t spaces.Explicit place e h = tt
 fine_space all t spaces.StaticProtected place e h = tt
 
-fine_entry : (v : Abc) (all : List Tree) (t : Tree) (e : Entry) → root t ≡ entry_head v e → In t all → Fine (privates_among all) e
+fine_entry : (v : Abc) (all : List Tree) (t : Tree) (e : Entry) → root t ≡ entry_head v e → StandsIn t all → Fine (privates_among all) e
 fine_entry v all t NoEntry e h = tt
 fine_entry v all t (IntEntry x) e h = tt
 fine_entry v all t (UIntEntry x) e h = tt
@@ -93,28 +93,28 @@ fine_entry v all t (SpaceEntry place n) e h = fine_space all t n.kind place e h
 fine_entry v all t (SetEntry spaces) e h = tt
 fine_entry v all t (NameEntry m) e h = tt
 
-pub fine : (v : Abc) (all : List Tree) (x : ℕ) (t : Tree) → IsTree (heads_of v) (graph_of v) x t → In t all → Fine (privates_among all) (entry_at v x)
+pub fine : (v : Abc) (all : List Tree) (x : ℕ) (t : Tree) → IsTree (heads_of v) (graph_of v) x t → StandsIn t all → Fine (privates_among all) (entry_at v x)
 fine v all x t g h = fine_entry v all t (entry_at v x) (node_root (heads_of v) (graph_of v) x t g ∙ head_at v x) h
 
-leaf_sound : (v : Abc) (all : List Tree) (x : ℕ) (t : Tree) → IsTree (heads_of v) (graph_of v) x t → In t all → Sound v (privates_among all) (Leaf (head (heads_of v) x))
+leaf_sound : (v : Abc) (all : List Tree) (x : ℕ) (t : Tree) → IsTree (heads_of v) (graph_of v) x t → StandsIn t all → Sound v (privates_among all) (Leaf (head_of_tree (heads_of v) x))
 leaf_sound v all x t g h =
     ap (head_of v (privates_among all)) (label_at v (privates_among all) x) ∙ head_found v (privates_among all) (entry_at v x) (fine v all x t g h) ∙ sym (head_at v x)
 
-grown_sound : (v : Abc) (ts : List Tree) {xs : List ℕ} {t u : Tree} → Grows (heads_of v) (graph_of v) xs t u → ((p : Tree) → In p (tree_parts u) → In p (visit_all ts [])) → Sound v (privates_among (visit_all ts [])) t → Sound v (privates_among (visit_all ts [])) u
+grown_sound : (v : Abc) (ts : List Tree) {xs : List ℕ} {t u : Tree} → GrowsTrees (heads_of v) (graph_of v) xs t u → ((p : Tree) → StandsIn p (tree_parts u) → StandsIn p (visit_all ts [])) → Sound v (privates_among (visit_all ts [])) t → Sound v (privates_among (visit_all ts [])) u
 grown_sound v ts Done h s = s
 grown_sound v ts (More {x = x} {t = t} {part = part} {u = u} p g) h s =
     let r = gained g in
-    let here : In part (visit_all ts []) =
-    h part (subst (In part) (sym r.under) (in_left (tree_parts t ++ part ∷ []) r.more part (in_right (tree_parts t) (part ∷ []) part (inl refl)))) in
+    let here : StandsIn part (visit_all ts []) =
+    h part (subst (StandsIn part) (sym r.under) (in_left (tree_parts t ++ part ∷ []) r.more part (in_right (tree_parts t) (part ∷ []) part (inl refl)))) in
     let under : Sound v (privates_among (visit_all ts [])) part =
     grown_sound v ts p (λ q k. parts_met ts part q here k) (leaf_sound v (visit_all ts []) x part p here) in
     grown_sound v ts g h (s, under)
 
-pub sound : (v : Abc) (ts : List Tree) (x : ℕ) (t : Tree) → IsTree (heads_of v) (graph_of v) x t → In t (visit_all ts []) → Sound v (privates_among (visit_all ts [])) t
+pub sound : (v : Abc) (ts : List Tree) (x : ℕ) (t : Tree) → IsTree (heads_of v) (graph_of v) x t → StandsIn t (visit_all ts []) → Sound v (privates_among (visit_all ts [])) t
 sound v ts x t g h = grown_sound v ts g (λ q k. parts_met ts t q h k) (leaf_sound v (visit_all ts []) x t g h)
 
 -- those that stand in a list of trees of nodes
-pub all_sound : (v : Abc) (ts us : List Tree) (xs : List ℕ) → AreTrees (heads_of v) (graph_of v) xs us → ((t : Tree) → In t us → In t (visit_all ts [])) → (t : Tree) → In t us → Sound v (privates_among (visit_all ts [])) t
+pub all_sound : (v : Abc) (ts us : List Tree) (xs : List ℕ) → AreTrees (heads_of v) (graph_of v) xs us → ((t : Tree) → StandsIn t us → StandsIn t (visit_all ts [])) → (t : Tree) → StandsIn t us → Sound v (privates_among (visit_all ts [])) t
 all_sound v ts us xs NoTrees h t k = absurd k
 all_sound v ts us0 xs0 (OneMore {x = x} {t = u} g are) h t (inl e) = subst (Sound v (privates_among (visit_all ts []))) (sym e) (sound v ts x u g (h u (inl refl)))
 all_sound v ts us0 xs0 (OneMore {xs = xs} {ts = us} g are) h t (inr k) = all_sound v ts us xs are (λ s l. h s (inr l)) t k
@@ -154,7 +154,7 @@ is_alone : Thing → Bool
 is_alone (Alone l) = true
 is_alone (With t u) = false
 
-label_in : Thing → Label
+label_in : Thing → EntryLabel
 label_in (Alone l) = l
 label_in (With t u) = Zero
 
@@ -166,11 +166,11 @@ part_in : Thing → Thing
 part_in (Alone l) = Alone l
 part_in (With t u) = u
 
-alone_or_with : (l : Label) (t u : Thing) → Alone l ≡ With t u → ⊥
+alone_or_with : (l : EntryLabel) (t u : Thing) → Alone l ≡ With t u → ⊥
 unfolding is_alone
 alone_or_with l t u e = true≢false (ap is_alone e)
 
-alone_same : (l m : Label) → Alone l ≡ Alone m → l ≡ m
+alone_same : (l m : EntryLabel) → Alone l ≡ Alone m → l ≡ m
 unfolding label_in
 alone_same l m e = ap label_in e
 
@@ -198,7 +198,7 @@ thing_alike v ps w qs (Apply c p) (Apply u q) x =
     let f : thing_of v ps p ≡ thing_of w qs q = thing_alike v ps w qs p q x.1 in
     λ i. With (e i) (f i)
 
-pub pairs_of : (v : Abc) (ps : List ℕ) (w : Abc) (qs : List ℕ) (ts us : List Tree) → map (thing_of v ps) ts ≡ map (thing_of w qs) us → ((t : Tree) → In t ts → Sound v ps t) → ((u : Tree) → In u us → Sound w qs u) → Pairs (Alike (Twins v ps w qs)) ts us
+pub pairs_of : (v : Abc) (ps : List ℕ) (w : Abc) (qs : List ℕ) (ts us : List Tree) → map (thing_of v ps) ts ≡ map (thing_of w qs) us → ((t : Tree) → StandsIn t ts → Sound v ps t) → ((u : Tree) → StandsIn u us → Sound w qs u) → Pairs (Alike (Twins v ps w qs)) ts us
 pairs_of v ps w qs [] [] e s r = tt
 pairs_of v ps w qs [] (u ∷ us) e s r = nil_or_cons e
   where

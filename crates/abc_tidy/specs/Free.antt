@@ -48,7 +48,7 @@ pub record Free : Type 0 where
 
 -- The free form of a file. Its Private namespaces are counted in the order in which they are first visited. A file of which
 -- an index leads to a name that leads back to itself has none.
-pub record IsFree (v : Abc) (free : Free) : Type 0 where
+pub record IsFreeForm (v : Abc) (free : Free) : Type 0 where
   pub trees : List Tree
   pub rooted : AreTrees (heads_of v) (graph_of v) (roots_of v) trees
   pub definitions : free.definitions ≡ beside (new_file no_index v) empty
@@ -57,5 +57,5 @@ pub record IsFree (v : Abc) (free : Free) : Type 0 where
 -- Two files have one free form.
 pub record HaveOneFree (v w : Abc) : Type 0 where
   pub free : Free
-  pub first : IsFree v free
-  pub second : IsFree w free
+  pub first : IsFreeForm v free
+  pub second : IsFreeForm w free

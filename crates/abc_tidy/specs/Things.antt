@@ -11,23 +11,23 @@ use Rattle.abc_file_types.specs.declared.names.Namespace.{Namespace}
 use Rattle.abc_file_types.specs.declared.names.NsKind.{NsKind}
 use Rattle.abc_file_types.specs.declared.tables.Abc.{Abc}
 use Rattle.abc_file_types.specs.declared.tables.Eight.{Eight}
-use Rattle.abc_tidy_entries.specs.Entries.{name_parts, place_among, set_parts, space_parts, space_value}
+use Rattle.abc_tidy_entries.specs.Entries.{entry_name_parts, place_among, set_parts, space_parts, space_told}
 
 -- What an entry is by itself. The number of a namespace tells which of the visited Private ones it is; of other kinds it is 0.
 -- The kind of a multiname tells whether it names an attribute.
-pub data Label : Type 0 where
-  Zero : Label
-  Int : ℤ → Label
-  UInt : ℕ → Label
-  Double : Eight → Label
-  Text : List ℕ → Label
-  Space : NsKind → ℕ → Label
-  Set : Label
-  Name : MultinameKind → Label
+pub data EntryLabel : Type 0 where
+  Zero : EntryLabel
+  Int : ℤ → EntryLabel
+  UInt : ℕ → EntryLabel
+  Double : Eight → EntryLabel
+  Text : List ℕ → EntryLabel
+  Space : NsKind → ℕ → EntryLabel
+  Set : EntryLabel
+  Name : MultinameKind → EntryLabel
 
 -- A thing: what an entry is alone, or a thing with one more under it.
 pub data Thing : Type 0 where
-  Alone : Label → Thing
+  Alone : EntryLabel → Thing
   With : Thing → Thing → Thing
 
 -- ---- the entries that indices name
@@ -59,24 +59,24 @@ abbrev pub entry_at : Abc → ℕ → Entry
 entry_at v x = get_or (entries v) x NoEntry
 
 -- the kind of a multiname
-abbrev pub kind_of : Multiname → MultinameKind
-kind_of (names.QName attr ns name) = kinds.QName attr
-kind_of (names.Rt attr name) = kinds.Rt attr
-kind_of (names.RtL attr) = kinds.RtL attr
-kind_of (names.Multi attr name set) = kinds.Multi attr
-kind_of (names.MultiL attr set) = kinds.MultiL attr
-kind_of (names.TypeName base params) = kinds.TypeName
+abbrev pub kind_of_multiname : Multiname → MultinameKind
+kind_of_multiname (names.QName attr ns name) = kinds.QName attr
+kind_of_multiname (names.Rt attr name) = kinds.Rt attr
+kind_of_multiname (names.RtL attr) = kinds.RtL attr
+kind_of_multiname (names.Multi attr name set) = kinds.Multi attr
+kind_of_multiname (names.MultiL attr set) = kinds.MultiL attr
+kind_of_multiname (names.TypeName base params) = kinds.TypeName
 
 -- what an entry is, where the Private namespaces that are visited stand at these places
-abbrev pub label : List ℕ → Entry → Label
-label privates NoEntry = Zero
-label privates (IntEntry x) = Int x
-label privates (UIntEntry x) = UInt x
-label privates (DoubleEntry x) = Double x
-label privates (TextEntry x) = Text x
-label privates (SpaceEntry place n) = Space n.kind (space_value n.kind (place_among nat_eq privates place))
-label privates (SetEntry spaces) = Set
-label privates (NameEntry m) = Name (kind_of m)
+abbrev pub label_of_entry : List ℕ → Entry → EntryLabel
+label_of_entry privates NoEntry = Zero
+label_of_entry privates (IntEntry x) = Int x
+label_of_entry privates (UIntEntry x) = UInt x
+label_of_entry privates (DoubleEntry x) = Double x
+label_of_entry privates (TextEntry x) = Text x
+label_of_entry privates (SpaceEntry place n) = Space n.kind (space_told n.kind (place_among nat_eq privates place))
+label_of_entry privates (SetEntry spaces) = Set
+label_of_entry privates (NameEntry m) = Name (kind_of_multiname m)
 
 -- the nodes that its indices name, in file order
 abbrev pub parts : Counts → Entry → List ℕ
@@ -87,18 +87,18 @@ parts c (DoubleEntry x) = []
 parts c (TextEntry x) = []
 parts c (SpaceEntry place n) = space_parts c n
 parts c (SetEntry spaces) = set_parts c spaces
-parts c (NameEntry m) = name_parts c m
+parts c (NameEntry m) = entry_name_parts c m
 
 -- ---- things
 
 -- With the things of some nodes under it, the first thing is the second.
 pub data Joined (v : Abc) (privates : List ℕ) : List ℕ → Thing → Thing → Type 0 where
   Whole : {t : Thing} → Joined v privates [] t t
-  Under : {x : ℕ} {xs : List ℕ} {t part u : Thing} → Joined v privates (parts (counts_of v) (entry_at v x)) (Alone (label privates (entry_at v x))) part → Joined v privates xs (With t part) u → Joined v privates (x ∷ xs) t u
+  Under : {x : ℕ} {xs : List ℕ} {t part u : Thing} → Joined v privates (parts (counts_of v) (entry_at v x)) (Alone (label_of_entry privates (entry_at v x))) part → Joined v privates xs (With t part) u → Joined v privates (x ∷ xs) t u
 
 -- The thing of a node. A name that leads back to itself has none.
 abbrev pub IsThing : Abc → List ℕ → ℕ → Thing → Type 0
-IsThing v privates x t = Joined v privates (parts (counts_of v) (entry_at v x)) (Alone (label privates (entry_at v x))) t
+IsThing v privates x t = Joined v privates (parts (counts_of v) (entry_at v x)) (Alone (label_of_entry privates (entry_at v x))) t
 
 -- the things of some nodes
 pub data AreThings (v : Abc) (privates : List ℕ) : List ℕ → List Thing → Type 0 where

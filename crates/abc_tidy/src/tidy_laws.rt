@@ -12,13 +12,16 @@ ghost use Rattle.abc_tidy_entries.specs.Rules.{IsTidied, IsTidyError};
 pub fn tidying_by_free_forms()
     ensures kept { (v t : Abc) → IsTidied v t → HaveOneFree v t }
     ensures values { (v t w u : Abc) → IsTidied v t → IsTidied w u → ((t ≡ u) ↔ HaveOneFree v w) }
-    ensures bytes { (v t w u : Abc) → IsTidied v t → IsTidied w u → ((file_bytes t ≡ file_bytes u) ↔ HaveOneFree v w) }
+    ensures bytes { (v t w u : Abc) → IsTidied v t → IsTidied w u
+        → ((file_bytes t ≡ file_bytes u) ↔ HaveOneFree v w) }
     ensures one { (v t u : Abc) → IsTidied v t → IsTidied v u → t ≡ u }
 {}
 
 /// What `tidy` answers of a tidied file is that file, or that there was no memory.
 pub fn tidied_once()
-    ensures { (v t : Abc) → (answer : Result Abc TidyError) → IsTidied v t → MatchResult answer (IsTidied t) (IsTidyError t) → MatchResult answer (λ u. u ≡ t) (λ e. e ≡ errors.NoMemory) }
+    ensures { (v t : Abc) → (answer : Result Abc TidyError) → IsTidied v t
+        → MatchResult answer (IsTidied t) (IsTidyError t)
+        → MatchResult answer (λ u. u ≡ t) (λ e. e ≡ errors.NoMemory) }
 {}
 
 /// A file has one tidied file, or one rule is the first that is broken, at one index, and never both; and it can't be that

@@ -1,10 +1,10 @@
 ghost use Rattle.std.specs.Prelude.{◌≡◌, ◌<◌, ◌+◌, ◌^◌, length, IfOk, MatchResult};
-ghost use Rattle.abc_tidy_refs.specs.Nodes.{counts_of, node_count, number_in};
+ghost use Rattle.abc_tidy_refs.specs.Nodes.{counts_of, node_count, new_index};
 ghost use Rattle.abc_tidy_refs.specs.Renumbered.{beside, new_file};
 ghost use Rattle.abc_tidy_entries.specs.declared.error.TidyError.TheVariants as errors;
 ghost use Rattle.abc_tidy_entries.specs.declared.error.TidyRule.TheVariants as rules;
-ghost use Rattle.abc_tidy_entries.specs.Rules.{Holds, IsTidied, IsTidyError};
-ghost use Rattle.abc_base_trees.specs.Classes.{AllClassed, AreClasses};
+ghost use Rattle.abc_tidy_entries.specs.Rules.{HoldsTidyRule, IsTidied, IsTidyError};
+ghost use Rattle.abc_base_trees.specs.Classes.{AllClassed, AreTreeClasses};
 ghost use Rattle.abc_file_types.specs.Files.{Fits};
 ghost use Rattle.abc_tidy.specs.Classed.{AreClassed};
 ghost use Rattle.abc_tidy_entries.specs.Entries.{graph_of};
@@ -27,9 +27,9 @@ use std::alloc::Global;
 #[tactic(auto, using(crate::proofs::Tidied::refused_name, crate::proofs::Tidied::no_name))]
 fn check_names(alloc: Global, abc: &Abc) -> Result<(), TidyError>
     requires few { length (abc.now).names + 1 < 2 ^ 32 }
-    requires operands { Holds abc.now rules.Operand }
-    requires param_names { Holds abc.now rules.ParamName }
-    ensures { MatchResult result (λ _. Holds abc.now rules.NameCycle) (IsTidyError abc.now) }
+    requires operands { HoldsTidyRule abc.now rules.Operand }
+    requires param_names { HoldsTidyRule abc.now rules.ParamName }
+    ensures { MatchResult result (λ _. HoldsTidyRule abc.now rules.NameCycle) (IsTidyError abc.now) }
 {
     let refs = refs_of(alloc, abc)?;
     match first_cyclic(alloc, abc, &refs)? {
@@ -51,12 +51,15 @@ fn check_classes(
     roots: &Table<u32>,
 ) -> Result<(), TidyError>
     requires few { length (abc.now).names + 1 < 2 ^ 32 }
-    requires operands { Holds abc.now rules.Operand }
-    requires param_names { Holds abc.now rules.ParamName }
+    requires operands { HoldsTidyRule abc.now rules.Operand }
+    requires param_names { HoldsTidyRule abc.now rules.ParamName }
     requires rooted { roots.now ≡ once (roots_of abc.now) }
-    requires valid { AreClasses _heads.now (graph_of abc.now) classes.now.keys.keys classes.now.classes }
-    requires ordered { Holds abc.now rules.NameCycle → AllClassed classes.now.classes (roots_of abc.now) }
-    ensures { MatchResult result (λ _. Holds abc.now rules.NameCycle × AllClassed classes.now.classes (roots_of abc.now)) (IsTidyError abc.now) }
+    requires valid { AreTreeClasses _heads.now (graph_of abc.now) classes.now.keys.keys classes.now.classes }
+    requires ordered { HoldsTidyRule abc.now rules.NameCycle
+        → AllClassed classes.now.classes (roots_of abc.now) }
+    ensures { MatchResult result
+        (λ _. HoldsTidyRule abc.now rules.NameCycle × AllClassed classes.now.classes (roots_of abc.now))
+        (IsTidyError abc.now) }
 {
     if classes.have(roots.as_slice()) {
         return Ok(());
@@ -84,9 +87,11 @@ fn class_entries(
     requires roots { roots ≡ once (roots_of abc.now) }
     requires counts { counts.now ≡ counts_of abc.now }
     requires few { node_count counts.now < 2 ^ 32 }
-    requires operands { Holds abc.now rules.Operand }
-    requires param_names { Holds abc.now rules.ParamName }
-    ensures { MatchResult result (λ k. AreClassed abc.now k.heads k.graph k.roots k.classes.keys.keys k.classes.classes) (IsTidyError abc.now) }
+    requires operands { HoldsTidyRule abc.now rules.Operand }
+    requires param_names { HoldsTidyRule abc.now rules.ParamName }
+    ensures { MatchResult result
+        (λ k. AreClassed abc.now k.heads k.graph k.roots k.classes.keys.keys k.classes.classes)
+        (IsTidyError abc.now) }
 {
     let graph = entries_of(alloc, abc, counts)?;
     let order = parts_first(alloc, &graph, &roots)?;
@@ -112,8 +117,10 @@ struct Plan {
 /// The plan of a file whose entries have these classes.
 fn plan_of(alloc: Global, abc: &Abc, counts: Counts, classed: &Classed) -> Result<Plan, NoMemory>
     requires counts { counts ≡ counts_of abc.now }
-    requires classed { AreClassed abc.now classed.now.heads classed.now.graph classed.now.roots classed.now.classes.keys.keys classed.now.classes.classes }
-    ensures { IfOk result (λ p. IsTidiedValue abc.now (beside (new_file (number_in p.numbers) abc.now) p.pools)) }
+    requires classed { AreClassed abc.now classed.now.heads classed.now.graph classed.now.roots
+        classed.now.classes.keys.keys classed.now.classes.classes }
+    ensures { IfOk result
+        (λ p. IsTidiedValue abc.now (beside (new_file (new_index p.numbers) abc.now) p.pools)) }
 {
     let heads = &classed.heads;
     let graph = &classed.graph;
@@ -161,7 +168,7 @@ fn put_beside(abc: Abc, pools: Abc) -> Abc
 
 /// A file with the numbers and pools of its plan, renumbered where it stands.
 fn follow(alloc: Global, abc: Abc, plan: Plan) -> Abc
-    ensures { result ≡ beside (new_file (number_in plan.numbers) abc) plan.pools }
+    ensures { result ≡ beside (new_file (new_index plan.numbers) abc) plan.pools }
 {
     let mut renumbered = abc;
     renumber(alloc, &mut renumbered, &plan.numbers);
@@ -170,7 +177,8 @@ fn follow(alloc: Global, abc: Abc, plan: Plan) -> Abc
 
 /// A tidied file, where some bytes spell it.
 fn spelled(tidied: Abc) -> Result<Abc, TidyError>
-    ensures { MatchResult result (λ t. (t ≡ tidied) × Fits tidied) (λ e. (e ≡ errors.Refused rules.TooLarge 0) × (Fits tidied → ⊥)) }
+    ensures { MatchResult result (λ t. (t ≡ tidied) × Fits tidied)
+        (λ e. (e ≡ errors.Refused rules.TooLarge 0) × (Fits tidied → ⊥)) }
 {
     if fits(&tidied) {
         return Ok(tidied);

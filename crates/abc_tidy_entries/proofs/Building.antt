@@ -8,7 +8,7 @@ use Rattle.abc_file_types.specs.declared.names.Namespace.{Namespace}
 use Rattle.abc_file_types.specs.declared.tables.Abc.{Abc}
 use Rattle.abc_base_trees.specs.declared.heads.Head.{Head}
 use Rattle.abc_base_trees.specs.Trees.{no_head}
-use Rattle.abc_tidy_entries.specs.Entries.{graph_of, heads_of, value_graph, value_heads, value_head, ints_kind, uints_kind, doubles_kind, texts_kind, sets_kind, int_places, uint_places, double_places, text_places, no_parts, name_head, name_parts, set_parts, space_head, space_heads, space_parts}
+use Rattle.abc_tidy_entries.specs.Entries.{graph_of, heads_of, value_graph, value_heads, value_head, ints_kind, uints_kind, doubles_kind, texts_kind, sets_kind, int_places, uint_places, double_places, text_places, no_parts, name_head, entry_name_parts, set_parts, space_head, space_heads, space_parts}
 
 heads_append : (place : ℕ) (xs ys : List Namespace) → space_heads place (xs ++ ys) ≡ space_heads place xs ++ space_heads (place + length xs) ys
 heads_append place [] ys = let e : place ≡ place + 0 = omega arith in ap (λ p. space_heads p ys) e
@@ -42,8 +42,8 @@ length-spaces place (x ∷ xs) = ap suc (length-spaces (place + 1) xs)
 pub same_count : (v : Abc) → length (heads_of v) ≡ length (graph_of v)
 same_count v =
     length-append4 (value_heads v) (space_heads 0 v.namespaces) (map (λ s. value_head sets_kind 0) v.sets) (map name_head v.names)
-    ∙ (λ i. values i + (length-spaces 0 v.namespaces ∙ sym (length-map v.namespaces (space_parts (counts_of v)))) i + (length-map v.sets (λ s. value_head sets_kind 0) ∙ sym (length-map v.sets (set_parts (counts_of v)))) i + (length-map v.names name_head ∙ sym (length-map v.names (name_parts (counts_of v)))) i)
-    ∙ sym (length-append4 (value_graph v) (map (space_parts (counts_of v)) v.namespaces) (map (set_parts (counts_of v)) v.sets) (map (name_parts (counts_of v)) v.names))
+    ∙ (λ i. values i + (length-spaces 0 v.namespaces ∙ sym (length-map v.namespaces (space_parts (counts_of v)))) i + (length-map v.sets (λ s. value_head sets_kind 0) ∙ sym (length-map v.sets (set_parts (counts_of v)))) i + (length-map v.names name_head ∙ sym (length-map v.names (entry_name_parts (counts_of v)))) i)
+    ∙ sym (length-append4 (value_graph v) (map (space_parts (counts_of v)) v.namespaces) (map (set_parts (counts_of v)) v.sets) (map (entry_name_parts (counts_of v)) v.names))
   where
     length-append4 : {A : Type 0} (a b c d : List A) → length (a ++ b ++ c ++ d) ≡ length a + length b + length c + length d
     length-append4 a b c d = length-append (a ++ b ++ c) d ∙ ap (λ n. n + length d) (length-append (a ++ b) c ∙ ap (λ n. n + length c) (length-append a b))
@@ -101,7 +101,7 @@ heads_built v a b c d h0 h1 h2 h3 h4 h5 h6 h7 h8 e0 e1 e2 e3 e4 e5 e6 e7 e8 =
     e8 ∙ ap (λ h. h ++ map name_head v.names) (e7 ∙ ap (λ h. h ++ map (λ s. value_head sets_kind 0) v.sets) (e6 ∙ ap (λ h. h ++ space_heads 0 v.namespaces) (e5 ∙ ap (λ h. h ++ map (value_head texts_kind) d)
     (e4 ∙ ap (λ h. h ++ map (value_head doubles_kind) c) (e3 ∙ ap (λ h. h ++ map (value_head uints_kind) b) (e2 ∙ ap (λ h. h ++ map (value_head ints_kind) a) (e1 ∙ ap (λ h. h ++ no_head ∷ []) e0)))))))
 
-pub entries_built : (v : Abc) (c : Counts) (g1 g2 g3 g4 : List (List ℕ)) → c ≡ counts_of v → g1 ≡ value_graph v → g2 ≡ g1 ++ map (space_parts c) v.namespaces → g3 ≡ g2 ++ map (set_parts c) v.sets → g4 ≡ g3 ++ map (name_parts c) v.names → g4 ≡ graph_of v
+pub entries_built : (v : Abc) (c : Counts) (g1 g2 g3 g4 : List (List ℕ)) → c ≡ counts_of v → g1 ≡ value_graph v → g2 ≡ g1 ++ map (space_parts c) v.namespaces → g3 ≡ g2 ++ map (set_parts c) v.sets → g4 ≡ g3 ++ map (entry_name_parts c) v.names → g4 ≡ graph_of v
 entries_built v c g1 g2 g3 g4 counts e1 e2 e3 e4 =
-    e4 ∙ ap (λ g. g ++ map (name_parts c) v.names) (e3 ∙ ap (λ g. g ++ map (set_parts c) v.sets) (e2 ∙ ap (λ g. g ++ map (space_parts c) v.namespaces) e1))
-    ∙ ap (λ k. value_graph v ++ map (space_parts k) v.namespaces ++ map (set_parts k) v.sets ++ map (name_parts k) v.names) counts
+    e4 ∙ ap (λ g. g ++ map (entry_name_parts c) v.names) (e3 ∙ ap (λ g. g ++ map (set_parts c) v.sets) (e2 ∙ ap (λ g. g ++ map (space_parts c) v.namespaces) e1))
+    ∙ ap (λ k. value_graph v ++ map (space_parts k) v.namespaces ++ map (set_parts k) v.sets ++ map (entry_name_parts k) v.names) counts

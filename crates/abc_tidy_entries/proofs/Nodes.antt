@@ -1,22 +1,22 @@
 -- Nodes are below their number.
 use Rattle.std.proofs.Common.{◌≡◌, ℕ, ◌+◌, ◌<◌, ◌≤◌, ◌^◌, Bool, true, false, nat_eq, nat_le, if◌then◌else◌, refl, ap, ◌∙◌, arith}
 use Rattle.abc_tidy_refs.specs.declared.nodes.Counts.{Counts}
-use Rattle.abc_tidy_refs.specs.Nodes.{node_at, node_count, node_of, set_node}
+use Rattle.abc_tidy_refs.specs.Nodes.{node_in_pool, node_count, node_of, set_node}
 use Rattle.abc_file_types.specs.declared.opcodes.Pool.{Pool}
 use Rattle.abc_file_types.specs.declared.opcodes.Pool.TheVariants as pools
 use Rattle.std.proofs.lemmas.Bool.{leb-true}
 
-pub node_at_most : (before size i : ℕ) → node_at before size i ≤ before + size
+pub node_at_most : (before size i : ℕ) → node_in_pool before size i ≤ before + size
 node_at_most before size i = by (nat_eq i 0) (nat_le i size) refl refl
   where
-    by : (a b : Bool) → nat_eq i 0 ≡ a → nat_le i size ≡ b → node_at before size i ≤ before + size
-    by true b e f = let h : node_at before size i ≡ 0 = ap (λ t. if t then 0 else if nat_le i size then before + i else 0) e in omega arith
+    by : (a b : Bool) → nat_eq i 0 ≡ a → nat_le i size ≡ b → node_in_pool before size i ≤ before + size
+    by true b e f = let h : node_in_pool before size i ≡ 0 = ap (λ t. if t then 0 else if nat_le i size then before + i else 0) e in omega arith
     by false true e f =
-        let h : node_at before size i ≡ before + i = ap (λ t. if t then 0 else if nat_le i size then before + i else 0) e ∙ ap (λ t. if t then before + i else 0) f in
+        let h : node_in_pool before size i ≡ before + i = ap (λ t. if t then 0 else if nat_le i size then before + i else 0) e ∙ ap (λ t. if t then before + i else 0) f in
         let l : i ≤ size = leb-true i size f in
         omega arith
     by false false e f =
-        let h : node_at before size i ≡ 0 = ap (λ t. if t then 0 else if nat_le i size then before + i else 0) e ∙ ap (λ t. if t then before + i else 0) f in
+        let h : node_in_pool before size i ≡ 0 = ap (λ t. if t then 0 else if nat_le i size then before + i else 0) e ∙ ap (λ t. if t then before + i else 0) f in
         omega arith
 
 pub node_small : (c : Counts) (p : Pool) (i : ℕ) → node_count c < 2 ^ 32 → node_of c p i < 2 ^ 32

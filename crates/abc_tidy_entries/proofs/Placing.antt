@@ -4,9 +4,9 @@ use Rattle.std.proofs.lemmas.Bool.{cases_lt}
 use Rattle.std.proofs.lemmas.List.{get_or_append_left, get_or_default, get_or-map, get_or_push, length-map}
 use Rattle.abc_base_graphs.specs.Graph.{Has}
 use Rattle.abc_file_types.specs.declared.tables.Abc.{Abc}
-use Rattle.abc_base_trees.specs.Orders.{In}
+use Rattle.abc_base_trees.specs.Orders.{StandsIn}
 use Rattle.abc_tidy_entries.specs.Entries.{place_among}
-use Rattle.abc_tidy_entries.specs.Heads.{ArePlaced, HasPlaces, HoldsMarked, TellApart}
+use Rattle.abc_tidy_entries.specs.Heads.{ArePlaced, HasHeadPlaces, HoldsMarked, TellApart}
 use Rattle.abc_tidy_entries.proofs.Found.{one_place}
 
 -- ---- what a list holds
@@ -17,7 +17,7 @@ contains_left xs ys x c = (c.0, omega (arith, c.1, length-append xs ys), get_or_
 contains_last : {A : Type 0} (xs : List A) (x : A) → Contains (xs ++ x ∷ []) x
 contains_last xs x = (length xs, omega (arith, length-append xs (x ∷ [])), get_or_push xs x x (length xs) refl)
 
-pub in_place : {A : Type 0} (xs : List A) (k : ℕ) (d : A) → k < length xs → In (get_or xs k d) xs
+pub in_place : {A : Type 0} (xs : List A) (k : ℕ) (d : A) → k < length xs → StandsIn (get_or xs k d) xs
 in_place [] k d lt = absurd (none k lt)
   where
     none : (k : ℕ) → k < 0 → ⊥
@@ -25,8 +25,8 @@ in_place [] k d lt = absurd (none k lt)
 in_place (x ∷ xs) zero d lt = inl refl
 in_place (x ∷ xs) (suc k) d lt = inr (in_place xs k d (omega arith))
 
-in_of : {A : Type 0} (xs : List A) (x : A) → Contains xs x → In x xs
-in_of xs x c = subst (λ y. In y xs) c.2 (in_place xs c.0 x c.1)
+in_of : {A : Type 0} (xs : List A) (x : A) → Contains xs x → StandsIn x xs
+in_of xs x c = subst (λ y. StandsIn y xs) c.2 (in_place xs c.0 x c.1)
 
 -- ---- one more value
 
@@ -69,13 +69,13 @@ many_next kept kept2 i x false le adds stays = omega (arith, le, ap length (stay
 pub holds_after : {A : Type 0} (marks : List Bool) (begin : ℕ) (values kept : List A) (n : ℕ) (x : A) → HoldsMarked marks begin values n kept → HoldsMarked marks begin values n (x ∷ kept)
 holds_after marks begin values kept n x s = record { holds = λ i d l m h. let c = s.holds i d l m h in (suc c.0, omega (arith, c.1), c.2) }
 
-pub places_none : {A : Type 0} (eq : A → A → Bool) (marks : List Bool) (begin : ℕ) (values chosen : List A) (places : List ℕ) → places ≡ [] → HasPlaces eq marks begin values chosen 0 places
+pub places_none : {A : Type 0} (eq : A → A → Bool) (marks : List Bool) (begin : ℕ) (values chosen : List A) (places : List ℕ) → places ≡ [] → HasHeadPlaces eq marks begin values chosen 0 places
 places_none eq marks begin values chosen places e = record { many = ap length e; placed = λ i d l m h. absurd (none i l) }
   where
     none : (i : ℕ) → i < 0 → ⊥
     none i l = omega arith
 
-pub places_next : {A : Type 0} (eq : A → A → Bool) (marks : List Bool) (begin : ℕ) (values chosen : List A) (places places2 : List ℕ) (i : ℕ) (x : A) (b : Bool) (n : ℕ) → HasPlaces eq marks begin values chosen i places → i < length values → x ≡ get_or values i x → b ≡ get_or marks (begin + i) false → (IsTrue b → n ≡ place_among eq chosen x) → places2 ≡ places ++ n ∷ [] → HasPlaces eq marks begin values chosen (i + 1) places2
+pub places_next : {A : Type 0} (eq : A → A → Bool) (marks : List Bool) (begin : ℕ) (values chosen : List A) (places places2 : List ℕ) (i : ℕ) (x : A) (b : Bool) (n : ℕ) → HasHeadPlaces eq marks begin values chosen i places → i < length values → x ≡ get_or values i x → b ≡ get_or marks (begin + i) false → (IsTrue b → n ≡ place_among eq chosen x) → places2 ≡ places ++ n ∷ [] → HasHeadPlaces eq marks begin values chosen (i + 1) places2
 places_next {A} eq marks begin values chosen places places2 i x b n s lt at mark found is = record {
   many = ap length is ∙ length-append places (n ∷ []) ∙ ap (λ k. k + 1) s.many;
   placed = λ k d l m h. go k d m h (cases_lt k i) l;
@@ -93,7 +93,7 @@ places_next {A} eq marks begin values chosen places places2 i x b n s lt at mark
 -- ---- telling apart
 
 -- so do their places among all values, and among more
-pub placed_tell : {A : Type 0} (eq : A → A → Bool) → ((x y : A) → Decides (eq x y) (x ≡ y)) → (marks : List Bool) (begin : ℕ) (values read all : List A) (places : List ℕ) (d : A) → read ≡ values → ArePlaced eq marks begin read places → ((i : ℕ) → i < length values → In (get_or values i d) all) → TellApart marks begin places (map (place_among eq all) values)
+pub placed_tell : {A : Type 0} (eq : A → A → Bool) → ((x y : A) → Decides (eq x y) (x ≡ y)) → (marks : List Bool) (begin : ℕ) (values read all : List A) (places : List ℕ) (d : A) → read ≡ values → ArePlaced eq marks begin read places → ((i : ℕ) → i < length values → StandsIn (get_or values i d) all) → TellApart marks begin places (map (place_among eq all) values)
 placed_tell {A} eq ok marks begin values read all places d same placed inside = record {
   many = s.has.many ∙ sym (length-map values (place_among eq all));
   there = λ i j li lj mi mj e. there i j (subst (λ n. i < n) s.has.many li) (subst (λ n. j < n) s.has.many lj) mi mj e;
@@ -103,7 +103,7 @@ placed_tell {A} eq ok marks begin values read all places d same placed inside = 
     s : ArePlaced eq marks begin values places
     s = subst (λ vs. ArePlaced eq marks begin vs places) same placed
 
-    held : (i : ℕ) → i < length values → Has marks (begin + i) → In (get_or values i d) s.chosen
+    held : (i : ℕ) → i < length values → Has marks (begin + i) → StandsIn (get_or values i d) s.chosen
     held i l m = in_of s.chosen (get_or values i d) (s.holds.holds i d l l m)
 
     place : (i : ℕ) → i < length values → get_or (map (place_among eq all) values) i 0 ≡ place_among eq all (get_or values i d)
@@ -124,11 +124,11 @@ placed_tell {A} eq ok marks begin values read all places d same placed inside = 
 pub read_at : {A : Type 0} (values : List A) (i : ℕ) (x y : A) → y ≡ x → get_or values i x ≡ x → y ≡ get_or values i y
 read_at values i x y e at = e ∙ sym at ∙ ap (λ d. get_or values i d) (sym e)
 
-pub placed_all : {A : Type 0} (eq : A → A → Bool) (marks : List Bool) (begin : ℕ) (values chosen kept : List A) (places : List ℕ) (i : ℕ) → HoldsMarked marks begin values (length values) chosen → kept ≡ chosen → HasPlaces eq marks begin values kept i places → length values ≤ i → i ≤ length values → ArePlaced eq marks begin values places
+pub placed_all : {A : Type 0} (eq : A → A → Bool) (marks : List Bool) (begin : ℕ) (values chosen kept : List A) (places : List ℕ) (i : ℕ) → HoldsMarked marks begin values (length values) chosen → kept ≡ chosen → HasHeadPlaces eq marks begin values kept i places → length values ≤ i → i ≤ length values → ArePlaced eq marks begin values places
 placed_all eq marks begin values chosen kept places i holds e has low high = record {
   chosen = kept;
   holds = subst (HoldsMarked marks begin values (length values)) (sym e) holds;
-  has = let q : i ≡ length values = omega (arith, low, high) in subst (λ n. HasPlaces eq marks begin values kept n places) q has;
+  has = let q : i ≡ length values = omega (arith, low, high) in subst (λ n. HasHeadPlaces eq marks begin values kept n places) q has;
 }
 
 pub held_all : {A : Type 0} (marks : List Bool) (begin : ℕ) (values kept : List A) (i : ℕ) → HoldsMarked marks begin values i kept → length values ≤ i → HoldsMarked marks begin values (length values) kept

@@ -6,22 +6,22 @@ use Rattle.std.proofs.lemmas.List.{length-replicate}
 use Rattle.std.proofs.lemmas.List.Elements.{All-cons, All-nil}
 use Rattle.abc_tidy_refs.specs.declared.nodes.Counts.{Counts}
 use Rattle.abc_tidy_refs.specs.declared.refs.Ref.{Ref}
-use Rattle.abc_tidy_refs.specs.Nodes.{counts_of, node_at, node_count, node_of}
+use Rattle.abc_tidy_refs.specs.Nodes.{counts_of, node_in_pool, node_count, node_of}
 use Rattle.abc_tidy_refs.specs.Refs.{file_refs, ref}
 use Rattle.abc_file_types.specs.declared.opcodes.Pool.{Pool}
 use Rattle.abc_file_types.specs.declared.opcodes.Pool.TheVariants as pools
 use Rattle.abc_file_types.specs.declared.tables.Abc.{Abc}
-use Rattle.abc_tidy_entries.specs.Once.{AreMarks, once, with_all}
-use Rattle.abc_tidy_entries.specs.Roots.{RootsView, is_there, with_ref}
-use Rattle.abc_tidy_entries.specs.Rules.{IsThere, names_pool, pool_size}
+use Rattle.abc_tidy_entries.specs.Once.{AreListMarks, once, with_all}
+use Rattle.abc_tidy_entries.specs.Roots.{RootsView, is_root_there, with_ref}
+use Rattle.abc_tidy_entries.specs.Rules.{IsEntryThere, names_pool, pool_size}
 use Rattle.abc_tidy_entries.specs.Visited.{roots_of}
 use Rattle.abc_tidy_entries.proofs.Once.{no_numbers}
 
 -- ---- nothing as yet
 
-pub begun : (c : Counts) (n : ℕ) (marks : List Bool) (nodes : List ℕ) → node_count c < 2 ^ 32 → n ≡ node_count c → marks ≡ replicate n false → nodes ≡ [] → (node_count c < 2 ^ 32) × (length marks ≡ node_count c) × AreMarks marks nodes
+pub begun : (c : Counts) (n : ℕ) (marks : List Bool) (nodes : List ℕ) → node_count c < 2 ^ 32 → n ≡ node_count c → marks ≡ replicate n false → nodes ≡ [] → (node_count c < 2 ^ 32) × (length marks ≡ node_count c) × AreListMarks marks nodes
 begun c n marks nodes few e is none =
-    (few, ap length is ∙ length-replicate n false ∙ e, subst (AreMarks marks) (sym none) (no_numbers n marks is))
+    (few, ap length is ∙ length-replicate n false ∙ e, subst (AreListMarks marks) (sym none) (no_numbers n marks is))
 
 -- ---- the nodes
 
@@ -40,18 +40,18 @@ both : (a b : Bool) → (a && b) ≡ true → (a ≡ true) × (b ≡ true)
 both true b e = (refl, e)
 both false b e = absurd (true≢false (sym e))
 
-at_there : (before size i : ℕ) → (not (nat_eq (node_at before size i) 0) || nat_eq i 0) ≡ true → i ≤ size
+at_there : (before size i : ℕ) → (not (nat_eq (node_in_pool before size i) 0) || nat_eq i 0) ≡ true → i ≤ size
 at_there before size i h = by (nat_eq i 0) (nat_le i size) refl refl
   where
     by : (a b : Bool) → nat_eq i 0 ≡ a → nat_le i size ≡ b → i ≤ size
     by true b e f = let z : i ≡ 0 = eqb-true i 0 e in omega arith
     by false true e f = leb-true i size f
     by false false e f =
-        let n : node_at before size i ≡ 0 = ap (λ t. if t then 0 else if nat_le i size then before + i else 0) e ∙ ap (λ t. if t then before + i else 0) f in
-        let g : (not (nat_eq (node_at before size i) 0) || nat_eq i 0) ≡ false = ap (λ (k : ℕ). not (nat_eq k 0) || nat_eq i 0) n ∙ e in
+        let n : node_in_pool before size i ≡ 0 = ap (λ t. if t then 0 else if nat_le i size then before + i else 0) e ∙ ap (λ t. if t then before + i else 0) f in
+        let g : (not (nat_eq (node_in_pool before size i) 0) || nat_eq i 0) ≡ false = ap (λ (k : ℕ). not (nat_eq k 0) || nat_eq i 0) n ∙ e in
         absurd (true≢false (sym h ∙ g))
 
-there : (v : Abc) (p : Pool) (i : ℕ) → is_there (node_of (counts_of v) p i) (ref p i) ≡ true → names_pool p ≡ true → i ≤ pool_size v p
+there : (v : Abc) (p : Pool) (i : ℕ) → is_root_there (node_of (counts_of v) p i) (ref p i) ≡ true → names_pool p ≡ true → i ≤ pool_size v p
 there v pools.NoPool i e n = absurd (true≢false (sym n))
 there v pools.Int i e n = at_there 0 (length v.ints) i e
 there v pools.UInt i e n = at_there (length v.ints) (length v.uints) i e
@@ -60,12 +60,12 @@ there v pools.Text i e n = at_there (length v.ints + length v.uints + length v.d
 there v pools.Space i e n = at_there (length v.ints + length v.uints + length v.doubles + length v.strings) (length v.namespaces) i e
 there v pools.Name i e n = at_there (length v.ints + length v.uints + length v.doubles + length v.strings + length v.namespaces + length v.sets) (length v.names) i e
 
-all_there : (v : Abc) (w : RootsView) (refs : List Ref) → w.counts ≡ counts_of v → (fold with_ref w refs).are_there ≡ true → (w.are_there ≡ true) × All (IsThere v) refs
-all_there v w [] e t = (t, All-nil (IsThere v))
+all_there : (v : Abc) (w : RootsView) (refs : List Ref) → w.counts ≡ counts_of v → (fold with_ref w refs).are_there ≡ true → (w.are_there ≡ true) × All (IsEntryThere v) refs
+all_there v w [] e t = (t, All-nil (IsEntryThere v))
 all_there v w (r ∷ refs) e t =
     let h = all_there v (with_ref w r) refs e t in
-    let s = both w.are_there (is_there (node_of w.counts r.pool r.index) r) h.0 in
-    (s.0, All-cons (IsThere v) r refs (there v r.pool r.index (subst (λ (c : Counts). is_there (node_of c r.pool r.index) r ≡ true) e s.1)) h.1)
+    let s = both w.are_there (is_root_there (node_of w.counts r.pool r.index) r) h.0 in
+    (s.0, All-cons (IsEntryThere v) r refs (there v r.pool r.index (subst (λ (c : Counts). is_root_there (node_of c r.pool r.index) r ≡ true) e s.1)) h.1)
 
-pub rooted_there : (v : Abc) (c : Counts) (w u : RootsView) → c ≡ counts_of v → w ≡ record { counts = c; nodes = []; are_there = true } → u ≡ fold with_ref w (file_refs v) → u.are_there ≡ true → All (IsThere v) (file_refs v)
+pub rooted_there : (v : Abc) (c : Counts) (w u : RootsView) → c ≡ counts_of v → w ≡ record { counts = c; nodes = []; are_there = true } → u ≡ fold with_ref w (file_refs v) → u.are_there ≡ true → All (IsEntryThere v) (file_refs v)
 rooted_there v c w u e f g t = (all_there v w (file_refs v) (ap (λ (x : RootsView). x.counts) f ∙ e) (sym (ap (λ (x : RootsView). x.are_there) g) ∙ t)).1

@@ -11,7 +11,7 @@ use Rattle.abc_file_types.specs.declared.names.NsKind.TheVariants as spaces
 use Rattle.abc_file_types.specs.declared.tables.Abc.{Abc}
 use Rattle.abc_file_types.specs.Pools.{namespace_code}
 use Rattle.abc_base_trees.specs.declared.heads.Head.{Head}
-use Rattle.abc_base_trees.specs.Trees.{head, no_head}
+use Rattle.abc_base_trees.specs.Trees.{head_of_tree, no_head}
 use Rattle.abc_tidy_entries.specs.Entries.{double_places, doubles_kind, heads_of, int_places, ints_kind, name_head, name_kind, sets_kind, space_heads, text_places, texts_kind, uint_places, uints_kind, value_head, value_heads}
 use Rattle.abc_tidy_entries.specs.Heads.{AreHigh, AreLow, TellApart, TellHeads}
 
@@ -20,7 +20,7 @@ none i lt = omega arith
 
 -- ---- values
 
-value_at : (kind : ℕ) (xs : List ℕ) (i : ℕ) → i < length xs → head (map (value_head kind) xs) i ≡ value_head kind (get_or xs i 0)
+value_at : (kind : ℕ) (xs : List ℕ) (i : ℕ) → i < length xs → head_of_tree (map (value_head kind) xs) i ≡ value_head kind (get_or xs i 0)
 value_at kind xs i lt = get_or-map (value_head kind) xs i 0 no_head lt
 
 values_tell : (kind : ℕ) (marks : List Bool) (begin : ℕ) (xs ys : List ℕ) → TellApart marks begin xs ys → TellHeads marks begin (map (value_head kind) xs) (map (value_head kind) ys)
@@ -30,12 +30,12 @@ values_tell kind marks begin xs ys s = record {
   back = λ i j li lj mi mj e. back i j (subst (λ n. i < n) (length-map xs (value_head kind)) li) (subst (λ n. j < n) (length-map xs (value_head kind)) lj) mi mj e;
 }
   where
-    there : (i j : ℕ) → i < length xs → j < length xs → Has marks (begin + i) → Has marks (begin + j) → head (map (value_head kind) xs) i ≡ head (map (value_head kind) xs) j → head (map (value_head kind) ys) i ≡ head (map (value_head kind) ys) j
+    there : (i j : ℕ) → i < length xs → j < length xs → Has marks (begin + i) → Has marks (begin + j) → head_of_tree (map (value_head kind) xs) i ≡ head_of_tree (map (value_head kind) xs) j → head_of_tree (map (value_head kind) ys) i ≡ head_of_tree (map (value_head kind) ys) j
     there i j li lj mi mj e =
         let same : get_or xs i 0 ≡ get_or xs j 0 = ap (λ h. h.value) (sym (value_at kind xs i li) ∙ e ∙ value_at kind xs j lj) in
         value_at kind ys i (subst (λ n. i < n) s.many li) ∙ ap (value_head kind) (s.there i j li lj mi mj same) ∙ sym (value_at kind ys j (subst (λ n. j < n) s.many lj))
 
-    back : (i j : ℕ) → i < length xs → j < length xs → Has marks (begin + i) → Has marks (begin + j) → head (map (value_head kind) ys) i ≡ head (map (value_head kind) ys) j → head (map (value_head kind) xs) i ≡ head (map (value_head kind) xs) j
+    back : (i j : ℕ) → i < length xs → j < length xs → Has marks (begin + i) → Has marks (begin + j) → head_of_tree (map (value_head kind) ys) i ≡ head_of_tree (map (value_head kind) ys) j → head_of_tree (map (value_head kind) xs) i ≡ head_of_tree (map (value_head kind) xs) j
     back i j li lj mi mj e =
         let same : get_or ys i 0 ≡ get_or ys j 0 = ap (λ h. h.value) (sym (value_at kind ys i (subst (λ n. i < n) s.many li)) ∙ e ∙ value_at kind ys j (subst (λ n. j < n) s.many lj)) in
         value_at kind xs i li ∙ ap (value_head kind) (s.back i j li lj mi mj same) ∙ sym (value_at kind xs j lj)
@@ -53,7 +53,7 @@ high_values kind k xs le = record { high = λ i l. subst (λ h. k ≤ h.kind) (s
 
 -- an entry of two lists of heads in a row
 abbrev Side : List Head → List Head → ℕ → Type 0
-Side hs ms i = ((i < length hs) × (head (hs ++ ms) i ≡ head hs i)) ⊎ ((j : ℕ) × (i ≡ length hs + j) × (j < length ms) × (head (hs ++ ms) i ≡ head ms j))
+Side hs ms i = ((i < length hs) × (head_of_tree (hs ++ ms) i ≡ head_of_tree hs i)) ⊎ ((j : ℕ) × (i ≡ length hs + j) × (j < length ms) × (head_of_tree (hs ++ ms) i ≡ head_of_tree ms j))
 
 side : (hs ms : List Head) (i : ℕ) → i < length (hs ++ ms) → Side hs ms i
 side hs ms i lt = go (cases_lt i (length hs))
@@ -62,12 +62,12 @@ side hs ms i lt = go (cases_lt i (length hs))
     go (inl l) = inl (l, get_or_append_left hs ms no_head i l)
     go (inr le) =
         let at : i ≡ length hs + (i - length hs) = omega (arith, le) in
-        inr (i - length hs, at, omega (arith, le, lt, length-append hs ms), ap (head (hs ++ ms)) at ∙ get_or-append-add hs ms (i - length hs) no_head)
+        inr (i - length hs, at, omega (arith, le, lt, length-append hs ms), ap (head_of_tree (hs ++ ms)) at ∙ get_or-append-add hs ms (i - length hs) no_head)
 
 low_append : (k : ℕ) (hs ms : List Head) → AreLow k hs → AreLow k ms → AreLow k (hs ++ ms)
 low_append k hs ms a b = record { low = λ i l. go i (side hs ms i l) }
   where
-    go : (i : ℕ) → Side hs ms i → (head (hs ++ ms) i).kind < k
+    go : (i : ℕ) → Side hs ms i → (head_of_tree (hs ++ ms) i).kind < k
     go i (inl (l, e)) = subst (λ h. h.kind < k) (sym e) (a.low i l)
     go i (inr (j, at, l, e)) = subst (λ h. h.kind < k) (sym e) (b.low j l)
 
@@ -77,14 +77,14 @@ low_more k m hs le a = record { low = λ i l. let h = a.low i l in omega (arith,
 high_append : (k : ℕ) (hs ms : List Head) → AreHigh k hs → AreHigh k ms → AreHigh k (hs ++ ms)
 high_append k hs ms a b = record { high = λ i l. go i (side hs ms i l) }
   where
-    go : (i : ℕ) → Side hs ms i → k ≤ (head (hs ++ ms) i).kind
+    go : (i : ℕ) → Side hs ms i → k ≤ (head_of_tree (hs ++ ms) i).kind
     go i (inl (l, e)) = subst (λ h. k ≤ h.kind) (sym e) (a.high i l)
     go i (inr (j, at, l, e)) = subst (λ h. k ≤ h.kind) (sym e) (b.high j l)
 
 high_cons : (k : ℕ) (h : Head) (hs : List Head) → k ≤ h.kind → AreHigh k hs → AreHigh k (h ∷ hs)
 high_cons k h hs le a = record { high = go }
   where
-    go : (i : ℕ) → i < length (h ∷ hs) → k ≤ (head (h ∷ hs) i).kind
+    go : (i : ℕ) → i < length (h ∷ hs) → k ≤ (head_of_tree (h ∷ hs) i).kind
     go zero l = le
     go (suc i) l = a.high i (omega (arith, l))
 
@@ -132,25 +132,25 @@ apart k a b low high e = let same : a.kind ≡ b.kind = ap (λ h. h.kind) e in o
 
 -- what is there in one pair of lists is there in the other
 abbrev Goes : List Bool → ℕ → List Head → List Head → Type 0
-Goes marks begin hs ks = (i j : ℕ) → i < length hs → j < length hs → Has marks (begin + i) → Has marks (begin + j) → head hs i ≡ head hs j → head ks i ≡ head ks j
+Goes marks begin hs ks = (i j : ℕ) → i < length hs → j < length hs → Has marks (begin + i) → Has marks (begin + j) → head_of_tree hs i ≡ head_of_tree hs j → head_of_tree ks i ≡ head_of_tree ks j
 
 go_on : (marks : List Bool) (begin k : ℕ) (hs ks ms ns : List Head) → length hs ≡ length ks → length ms ≡ length ns → Goes marks begin hs ks → Goes marks (begin + length hs) ms ns → AreLow k hs → AreHigh k ms → Goes marks begin (hs ++ ms) (ks ++ ns)
 go_on marks begin k hs ks ms ns same_hs same_ms first second low high i j li lj mi mj e = by (side hs ms i li) (side hs ms j lj)
   where
-    left : (i : ℕ) → i < length hs → head (ks ++ ns) i ≡ head ks i
+    left : (i : ℕ) → i < length hs → head_of_tree (ks ++ ns) i ≡ head_of_tree ks i
     left i l = get_or_append_left ks ns no_head i (subst (λ n. i < n) same_hs l)
 
-    right : (i m : ℕ) → i ≡ length hs + m → head (ks ++ ns) i ≡ head ns m
-    right i m at = ap (head (ks ++ ns)) (at ∙ ap (λ n. n + m) same_hs) ∙ get_or-append-add ks ns m no_head
+    right : (i m : ℕ) → i ≡ length hs + m → head_of_tree (ks ++ ns) i ≡ head_of_tree ns m
+    right i m at = ap (head_of_tree (ks ++ ns)) (at ∙ ap (λ n. n + m) same_hs) ∙ get_or-append-add ks ns m no_head
 
     mark : (i m : ℕ) → i ≡ length hs + m → Has marks (begin + i) → Has marks (begin + length hs + m)
     mark i m at h = let q : begin + i ≡ begin + length hs + m = omega (arith, at) in subst (Has marks) q h
 
-    by : Side hs ms i → Side hs ms j → head (ks ++ ns) i ≡ head (ks ++ ns) j
+    by : Side hs ms i → Side hs ms j → head_of_tree (ks ++ ns) i ≡ head_of_tree (ks ++ ns) j
     by (inl (l, p)) (inl (m, q)) = left i l ∙ first i j l m mi mj (sym p ∙ e ∙ q) ∙ sym (left j m)
     by (inr (n, at, l, p)) (inr (o, to, m, q)) = right i n at ∙ second n o l m (mark i n at mi) (mark j o to mj) (sym p ∙ e ∙ q) ∙ sym (right j o to)
-    by (inl (l, p)) (inr (o, to, m, q)) = absurd (apart k (head hs i) (head ms o) (low.low i l) (high.high o m) (sym p ∙ e ∙ q))
-    by (inr (n, at, l, p)) (inl (m, q)) = absurd (apart k (head hs j) (head ms n) (low.low j m) (high.high n l) (sym (sym p ∙ e ∙ q)))
+    by (inl (l, p)) (inr (o, to, m, q)) = absurd (apart k (head_of_tree hs i) (head_of_tree ms o) (low.low i l) (high.high o m) (sym p ∙ e ∙ q))
+    by (inr (n, at, l, p)) (inl (m, q)) = absurd (apart k (head_of_tree hs j) (head_of_tree ms n) (low.low j m) (high.high n l) (sym (sym p ∙ e ∙ q)))
 
 append_tell : (marks : List Bool) (begin k : ℕ) (hs ks ms ns : List Head) → TellHeads marks begin hs ks → TellHeads marks (begin + length hs) ms ns → AreLow k hs → AreLow k ks → AreHigh k ms → AreHigh k ns → TellHeads marks begin (hs ++ ms) (ks ++ ns)
 append_tell marks begin k hs ks ms ns a b low_hs low_ks high_ms high_ns = record {
@@ -176,7 +176,7 @@ four ints uints doubles texts = two ints uints ++ map (value_head doubles_kind) 
 low_zero : AreLow 1 (no_head ∷ [])
 low_zero = record { low = λ i l. go i l }
   where
-    go : (i : ℕ) → i < 1 → (head (no_head ∷ []) i).kind < 1
+    go : (i : ℕ) → i < 1 → (head_of_tree (no_head ∷ []) i).kind < 1
     go zero l = omega arith
     go (suc i) l = absurd (omega (arith, l))
 

@@ -44,17 +44,17 @@ abbrev pub sets_kind : ℕ
 sets_kind = 6
 
 -- a Private namespace is the one at its place; any other is told by its kind and name
-abbrev pub space_value : NsKind → ℕ → ℕ
-space_value spaces.Private place = place
-space_value spaces.Namespace place = 0
-space_value spaces.Package place = 0
-space_value spaces.PackageInternal place = 0
-space_value spaces.Protected place = 0
-space_value spaces.Explicit place = 0
-space_value spaces.StaticProtected place = 0
+abbrev pub space_told : NsKind → ℕ → ℕ
+space_told spaces.Private place = place
+space_told spaces.Namespace place = 0
+space_told spaces.Package place = 0
+space_told spaces.PackageInternal place = 0
+space_told spaces.Protected place = 0
+space_told spaces.Explicit place = 0
+space_told spaces.StaticProtected place = 0
 
 abbrev pub space_head : Namespace → ℕ → Head
-space_head n place = record { kind = namespace_code n.kind; value = space_value n.kind place }
+space_head n place = record { kind = namespace_code n.kind; value = space_told n.kind place }
 
 -- from a place on
 abbrev pub space_heads : ℕ → List Namespace → List Head
@@ -102,13 +102,13 @@ space_parts c n = node_of c pools.Text n.name ∷ []
 abbrev pub set_parts : Counts → List ℕ → List ℕ
 set_parts c spaces = map (node_of c pools.Space) spaces
 
-abbrev pub name_parts : Counts → Multiname → List ℕ
-name_parts c (names.QName attr ns name) = node_of c pools.Space ns ∷ node_of c pools.Text name ∷ []
-name_parts c (names.Rt attr name) = node_of c pools.Text name ∷ []
-name_parts c (names.RtL attr) = []
-name_parts c (names.Multi attr name set) = node_of c pools.Text name ∷ set_node c set ∷ []
-name_parts c (names.MultiL attr set) = set_node c set ∷ []
-name_parts c (names.TypeName base params) = node_of c pools.Name base ∷ map (node_of c pools.Name) params
+abbrev pub entry_name_parts : Counts → Multiname → List ℕ
+entry_name_parts c (names.QName attr ns name) = node_of c pools.Space ns ∷ node_of c pools.Text name ∷ []
+entry_name_parts c (names.Rt attr name) = node_of c pools.Text name ∷ []
+entry_name_parts c (names.RtL attr) = []
+entry_name_parts c (names.Multi attr name set) = node_of c pools.Text name ∷ set_node c set ∷ []
+entry_name_parts c (names.MultiL attr set) = set_node c set ∷ []
+entry_name_parts c (names.TypeName base params) = node_of c pools.Name base ∷ map (node_of c pools.Name) params
 
 abbrev pub no_parts : {A : Type 0} → List A → List (List ℕ)
 no_parts xs = map (λ x. []) xs
@@ -119,4 +119,4 @@ value_graph v = ([] ∷ []) ++ no_parts (int_places v) ++ no_parts (uint_places 
 -- for each node those that its entry names; node 0, numbers, doubles and strings name none
 abbrev pub graph_of : Abc → List (List ℕ)
 graph_of v =
-    value_graph v ++ map (space_parts (counts_of v)) v.namespaces ++ map (set_parts (counts_of v)) v.sets ++ map (name_parts (counts_of v)) v.names
+    value_graph v ++ map (space_parts (counts_of v)) v.namespaces ++ map (set_parts (counts_of v)) v.sets ++ map (entry_name_parts (counts_of v)) v.names

@@ -2,15 +2,15 @@
 use Rattle.std.specs.Prelude.{ℕ, ◌<◌, List, Some, None}
 use Rattle.std.specs.declared.option.Option.{Option}
 use Rattle.abc_file_types.specs.declared.tables.Abc.{Abc}
-use Rattle.abc_tidy_entries.specs.Rules.{IsBroken, IsCyclic}
+use Rattle.abc_tidy_entries.specs.Rules.{IsSomeBroken, IsCyclic}
 
 -- none of the items below a number is broken
 abbrev pub HoldBelow : {A : Type 0} → (A → Type 0) → List A → ℕ → Type 0
-HoldBelow P xs n = (j : ℕ) → j < n → IsBroken P xs j → ⊥
+HoldBelow P xs n = (j : ℕ) → j < n → IsSomeBroken P xs j → ⊥
 
-abbrev pub IsFirst : {A : Type 0} → (A → Type 0) → List A → Option ℕ → Type 0
-IsFirst P xs None = (i : ℕ) → IsBroken P xs i → ⊥
-IsFirst P xs (Some i) = IsBroken P xs i × HoldBelow P xs i
+abbrev pub IsFirstPlace : {A : Type 0} → (A → Type 0) → List A → Option ℕ → Type 0
+IsFirstPlace P xs None = (i : ℕ) → IsSomeBroken P xs i → ⊥
+IsFirstPlace P xs (Some i) = IsSomeBroken P xs i × HoldBelow P xs i
 
 -- the index of the first name that is cyclic, or none where none is
 abbrev pub IsFirstCyclic : Abc → Option ℕ → Type 0

@@ -11,11 +11,11 @@ use Rattle.abc_file_types.specs.declared.opcodes.Pool.TheVariants as pools
 use Rattle.abc_file_types.specs.declared.tables.Abc.{Abc}
 
 -- an index of one of so many names, and not 0
-abbrev pub is_name : ℕ → ℕ → Bool
-is_name count i = not (nat_eq i 0) && nat_le i count
+abbrev pub is_name_index : ℕ → ℕ → Bool
+is_name_index count i = not (nat_eq i 0) && nat_le i count
 
 abbrev pub names_among : ℕ → List ℕ → List ℕ
-names_among count xs = filter (is_name count) xs
+names_among count xs = filter (is_name_index count) xs
 
 abbrev pub name_targets : ℕ → Multiname → List ℕ
 name_targets count (names.QName attr ns name) = []

@@ -2,12 +2,12 @@
 use Rattle.std.specs.Prelude.{◌≡◌, ℕ, ◌<◌, List, [], ◌∷◌, ◌++◌, Bool, false, if◌then◌else◌, get_or, length, nat_eq}
 use Rattle.std.specs.List.{list_any}
 
-abbrev pub is_in : ℕ → List ℕ → Bool
-is_in x ys = list_any (nat_eq x) ys
+abbrev pub is_in_list : ℕ → List ℕ → Bool
+is_in_list x ys = list_any (nat_eq x) ys
 
 -- one more number, unless it is there
 abbrev pub with_one : List ℕ → ℕ → List ℕ
-with_one ys x = if is_in x ys then ys else ys ++ x ∷ []
+with_one ys x = if is_in_list x ys then ys else ys ++ x ∷ []
 
 -- some more numbers
 abbrev pub with_all : List ℕ → List ℕ → List ℕ
@@ -19,5 +19,5 @@ abbrev pub once : List ℕ → List ℕ
 once xs = with_all [] xs
 
 -- the marks tell which numbers stand in a list
-pub record AreMarks (marks : List Bool) (ys : List ℕ) : Type 0 where
-  pub marks_are : (y : ℕ) → y < length marks → get_or marks y false ≡ is_in y ys
+pub record AreListMarks (marks : List Bool) (ys : List ℕ) : Type 0 where
+  pub marks_are : (y : ℕ) → y < length marks → get_or marks y false ≡ is_in_list y ys

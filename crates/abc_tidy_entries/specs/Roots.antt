@@ -13,12 +13,12 @@ pub record RootsView : Type 0 where
   pub are_there : Bool
 
 -- an index that is not 0 and names no entry has node 0
-abbrev pub is_there : ℕ → Ref → Bool
-is_there node r = not (names_pool r.pool) || (not (nat_eq node 0) || nat_eq r.index 0)
+abbrev pub is_root_there : ℕ → Ref → Bool
+is_root_there node r = not (names_pool r.pool) || (not (nat_eq node 0) || nat_eq r.index 0)
 
 abbrev pub with_ref : RootsView → Ref → RootsView
 with_ref v r = record {
   counts = v.counts;
   nodes = with_one v.nodes (node_of v.counts r.pool r.index);
-  are_there = v.are_there && is_there (node_of v.counts r.pool r.index) r;
+  are_there = v.are_there && is_root_there (node_of v.counts r.pool r.index) r;
 }

@@ -19,11 +19,11 @@ use Rattle.abc_tidy_entries.specs.NameGraph.{name_graph}
 use Rattle.abc_tidy_entries.specs.Visited.{IsTidiedValue}
 
 -- the name of a rule, as error lines show it
-abbrev pub rule_name : TidyRule → List ℕ
-rule_name rules.Operand = codes "Operand"
-rule_name rules.ParamName = codes "ParamName"
-rule_name rules.NameCycle = codes "NameCycle"
-rule_name rules.TooLarge = codes "TooLarge"
+abbrev pub tidy_rule_name : TidyRule → List ℕ
+tidy_rule_name rules.Operand = codes "Operand"
+tidy_rule_name rules.ParamName = codes "ParamName"
+tidy_rule_name rules.NameCycle = codes "NameCycle"
+tidy_rule_name rules.TooLarge = codes "TooLarge"
 
 -- how many entries a pool has
 abbrev pub pool_size : Abc → Pool → ℕ
@@ -45,20 +45,20 @@ names_pool pools.Space = true
 names_pool pools.Name = true
 
 -- the index names an entry, or nothing
-abbrev pub IsThere : Abc → Ref → Type 0
-IsThere v r = names_pool r.pool ≡ true → r.index ≤ pool_size v r.pool
+abbrev pub IsEntryThere : Abc → Ref → Type 0
+IsEntryThere v r = names_pool r.pool ≡ true → r.index ≤ pool_size v r.pool
 
 abbrev pub InstrHolds : Abc → Instr → Type 0
-InstrHolds v i = All (IsThere v) (instr_refs i)
+InstrHolds v i = All (IsEntryThere v) (instr_refs i)
 
 abbrev pub BodyHolds : Abc → Body → Type 0
-BodyHolds v b = All (IsThere v) (flat_map instr_refs b.code)
+BodyHolds v b = All (IsEntryThere v) (flat_map instr_refs b.code)
 
 abbrev pub MethodHolds : Abc → Method → Type 0
 MethodHolds v m = All (λ name. name ≤ length v.strings) m.param_names
 
 -- Some item has the index, and what should hold of it does not.
-pub record IsBroken {A : Type 0} (P : A → Type 0) (xs : List A) (i : ℕ) : Type 0 where
+pub record IsSomeBroken {A : Type 0} (P : A → Type 0) (xs : List A) (i : ℕ) : Type 0 where
   pub item : A
   pub within : i < length xs
   pub at : get_or xs i item ≡ item
@@ -76,37 +76,37 @@ pub record IsTooLarge (v : Abc) (i : ℕ) : Type 0 where
   pub is : IsTidiedValue v tidied
   pub unfit : Fits tidied → ⊥
 
-abbrev pub Breaks : Abc → TidyRule → ℕ → Type 0
-Breaks v rules.Operand i = IsBroken (BodyHolds v) v.bodies i
-Breaks v rules.ParamName i = IsBroken (MethodHolds v) v.methods i
-Breaks v rules.NameCycle i = IsCyclic v i
-Breaks v rules.TooLarge i = IsTooLarge v i
+abbrev pub BreaksTidyRule : Abc → TidyRule → ℕ → Type 0
+BreaksTidyRule v rules.Operand i = IsSomeBroken (BodyHolds v) v.bodies i
+BreaksTidyRule v rules.ParamName i = IsSomeBroken (MethodHolds v) v.methods i
+BreaksTidyRule v rules.NameCycle i = IsCyclic v i
+BreaksTidyRule v rules.TooLarge i = IsTooLarge v i
 
 -- Nothing breaks the rule.
-abbrev pub Holds : Abc → TidyRule → Type 0
-Holds v rule = (i : ℕ) → Breaks v rule i → ⊥
+abbrev pub HoldsTidyRule : Abc → TidyRule → Type 0
+HoldsTidyRule v rule = (i : ℕ) → BreaksTidyRule v rule i → ⊥
 
 abbrev pub HoldBefore : Abc → TidyRule → Type 0
 HoldBefore v rules.Operand = Unit {0}
-HoldBefore v rules.ParamName = Holds v rules.Operand
-HoldBefore v rules.NameCycle = Holds v rules.Operand × Holds v rules.ParamName
-HoldBefore v rules.TooLarge = Holds v rules.Operand × Holds v rules.ParamName × Holds v rules.NameCycle
+HoldBefore v rules.ParamName = HoldsTidyRule v rules.Operand
+HoldBefore v rules.NameCycle = HoldsTidyRule v rules.Operand × HoldsTidyRule v rules.ParamName
+HoldBefore v rules.TooLarge = HoldsTidyRule v rules.Operand × HoldsTidyRule v rules.ParamName × HoldsTidyRule v rules.NameCycle
 
 -- The rules before hold, and this one is broken at no lower index.
-pub record IsFirstBroken (v : Abc) (rule : TidyRule) (i : ℕ) : Type 0 where
+pub record IsFirstTidyBroken (v : Abc) (rule : TidyRule) (i : ℕ) : Type 0 where
   pub before : HoldBefore v rule
-  pub broken : Breaks v rule i
-  pub least : (j : ℕ) → j < i → Breaks v rule j → ⊥
+  pub broken : BreaksTidyRule v rule i
+  pub least : (j : ℕ) → j < i → BreaksTidyRule v rule j → ⊥
 
 -- If the error is a refusal, its rule is the first that is broken, at its least index.
 abbrev pub IsTidyError : Abc → TidyError → Type 0
-IsTidyError v (errors.Refused rule index) = IsFirstBroken v rule index
+IsTidyError v (errors.Refused rule index) = IsFirstTidyBroken v rule index
 IsTidyError v errors.NoMemory = Unit {0}
 
 -- No rule is broken, and this is the tidied value, which some bytes spell.
 pub record IsTidied (v t : Abc) : Type 0 where
-  pub operands : Holds v rules.Operand
-  pub param_names : Holds v rules.ParamName
-  pub names : Holds v rules.NameCycle
+  pub operands : HoldsTidyRule v rules.Operand
+  pub param_names : HoldsTidyRule v rules.ParamName
+  pub names : HoldsTidyRule v rules.NameCycle
   pub value : IsTidiedValue v t
   pub fits : Fits t

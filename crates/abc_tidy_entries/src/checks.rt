@@ -1,7 +1,7 @@
 ghost use Rattle.std.specs.Prelude.{◌≡◌, ◌↔◌, ◌≤◌, All, IfOk, IsTrue, MatchResult};
 ghost use Rattle.abc_tidy_refs.specs.Refs.{file_refs};
 ghost use Rattle.abc_tidy_entries.specs.declared.error.TidyRule.TheVariants as rules;
-ghost use Rattle.abc_tidy_entries.specs.Rules.{BodyHolds, Holds, InstrHolds, IsTidyError, IsThere, MethodHolds, names_pool as is_named, pool_size as size_of_pool};
+ghost use Rattle.abc_tidy_entries.specs.Rules.{BodyHolds, HoldsTidyRule, InstrHolds, IsTidyError, IsEntryThere, MethodHolds, names_pool as is_named, pool_size as size_of_pool};
 
 use crate::error::{TidyError, TidyRule};
 use abc_base::NoMemory;
@@ -35,7 +35,7 @@ pub(crate) fn names_pool(pool: Pool) -> bool
 
 /// Whether an index names an entry, or nothing.
 fn is_there(abc: &Abc, index: Ref) -> bool
-    ensures { IsTrue result ↔ IsThere abc.now index }
+    ensures { IsTrue result ↔ IsEntryThere abc.now index }
 {
     !names_pool(index.pool) || index.index as usize <= pool_size(abc, index.pool)
 }
@@ -89,7 +89,7 @@ pub(crate) fn count_of(len: usize) -> Result<u32, NoMemory>
 /// Tries that each operand names an entry, or nothing. The first body where one does not is refused.
 #[tactic(auto, using(crate::proofs::Firsts::holds_next, crate::proofs::Firsts::refused_body, crate::proofs::Firsts::none_found))]
 fn check_bodies(abc: &Abc) -> Result<(), TidyError>
-    ensures { MatchResult result (λ _. Holds abc.now rules.Operand) (IsTidyError abc.now) }
+    ensures { MatchResult result (λ _. HoldsTidyRule abc.now rules.Operand) (IsTidyError abc.now) }
 {
     let count = count_of(abc.bodies.len())?;
     for i in 0..count {
@@ -106,8 +106,8 @@ fn check_bodies(abc: &Abc) -> Result<(), TidyError>
 /// Tries that no name of a parameter is above the strings. The first method where one is is refused.
 #[tactic(auto, using(crate::proofs::Firsts::holds_next, crate::proofs::Firsts::refused_method, crate::proofs::Firsts::none_found))]
 fn check_methods(abc: &Abc) -> Result<(), TidyError>
-    requires { Holds abc.now rules.Operand }
-    ensures { MatchResult result (λ _. Holds abc.now rules.ParamName) (IsTidyError abc.now) }
+    requires { HoldsTidyRule abc.now rules.Operand }
+    ensures { MatchResult result (λ _. HoldsTidyRule abc.now rules.ParamName) (IsTidyError abc.now) }
 {
     let count = count_of(abc.methods.len())?;
     for i in 0..count {
@@ -125,8 +125,10 @@ fn check_methods(abc: &Abc) -> Result<(), TidyError>
 /// with a parameter's name, that names no entry. Where each index of the file is there, as it is in a file that was read, the bodies
 /// and methods are not gone over.
 pub fn check_indices(abc: &Abc, are_there: bool) -> Result<(), TidyError>
-    requires { IsTrue are_there → All (IsThere abc.now) (file_refs abc.now) }
-    ensures { MatchResult result (λ _. Holds abc.now rules.Operand × Holds abc.now rules.ParamName) (IsTidyError abc.now) }
+    requires { IsTrue are_there → All (IsEntryThere abc.now) (file_refs abc.now) }
+    ensures { MatchResult result
+        (λ _. HoldsTidyRule abc.now rules.Operand × HoldsTidyRule abc.now rules.ParamName)
+        (IsTidyError abc.now) }
 {
     if are_there {
         return Ok(());

@@ -1,8 +1,8 @@
 ghost use Rattle.std.specs.Prelude.{◌≡◌, ◌<◌, ◌+◌, ◌++◌, ◌^◌, length, IfOk, OnOk};
 ghost use Rattle.abc_tidy_refs.specs.Refs.{file_refs};
 ghost use Rattle.abc_tidy_entries.specs.Firsts.{IsFirstCyclic};
-ghost use Rattle.abc_tidy_entries.specs.NameGraph.{is_name as is_name_index, name_graph as graph_of_names, name_indices as indices_of_names, name_targets as targets_of_name, names_among as those_among};
-ghost use Rattle.abc_tidy_entries.specs.Kept.{AreKept, row as row_of};
+ghost use Rattle.abc_tidy_entries.specs.NameGraph.{is_name_index, name_graph as graph_of_names, name_indices as indices_of_names, name_targets as targets_of_name, names_among as those_among};
+ghost use Rattle.abc_tidy_entries.specs.Kept.{AreRowsKept, row_kept as row_of};
 
 use abc_base::{NoMemory, Table};
 use abc_base_graphs::{first_return, reached};
@@ -98,7 +98,7 @@ fn kept_rows(
     marks: &[bool],
 ) -> Result<Table<Table<u32>>, NoMemory>
     requires { length marks.now ≡ length graph.now }
-    ensures { IfOk result (λ rows. AreKept marks.now graph.now rows) }
+    ensures { IfOk result (λ rows. AreRowsKept marks.now graph.now rows) }
 {
     let mut rows = Table::new(alloc);
     for node in 0..graph.len() {

@@ -1,6 +1,6 @@
 ghost use Rattle.std.specs.Prelude.{◌≡◌, ◌<◌, ◌++◌, ◌^◌, [], map, replicate, IfOk, OnOk};
 ghost use Rattle.abc_tidy_refs.specs.Nodes.{counts_of, node_count, node_of, set_node};
-ghost use Rattle.abc_tidy_entries.specs.Entries.{graph_of, name_parts as parts_of_name, set_parts, space_parts, value_graph};
+ghost use Rattle.abc_tidy_entries.specs.Entries.{graph_of, entry_name_parts as parts_of_name, set_parts, space_parts, value_graph};
 
 use abc_base::{NoMemory, Table};
 use abc_base_trees::Rows;

@@ -1,6 +1,6 @@
 ghost use Rattle.std.specs.Prelude.{◌≡◌};
 ghost use Rattle.abc_tidy_entries.specs.declared.error.TidyError.TheVariants as errors;
-ghost use Rattle.abc_tidy_entries.specs.Rules.{rule_name};
+ghost use Rattle.abc_tidy_entries.specs.Rules.{tidy_rule_name};
 
 use abc_base::NoMemory;
 use thiserror::Error;
@@ -21,7 +21,7 @@ pub enum TidyRule {
 impl TidyRule {
     /// The rule's name, as it is shown.
     pub fn name(self) -> &'static str
-        ensures { result.now ≡ rule_name self }
+        ensures { result.now ≡ tidy_rule_name self }
     {
         match self {
             TidyRule::Operand => "Operand",

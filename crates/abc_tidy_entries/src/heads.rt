@@ -1,6 +1,6 @@
 ghost use Rattle.std.specs.Prelude.{◌≡◌, ◌<◌, ◌++◌, ◌^◌, map, length, IfOk, OnOk};
 ghost use Rattle.abc_tidy_refs.specs.Nodes.{counts_of, node_count};
-ghost use Rattle.abc_tidy_entries.specs.Entries.{heads_of as heads_of_file, name_head, name_kind as kind_of_name, sets_kind, space_head, space_heads, space_value as value_of_space, value_head};
+ghost use Rattle.abc_tidy_entries.specs.Entries.{heads_of as heads_of_file, name_head, name_kind as kind_of_name, sets_kind, space_head, space_heads, space_told as value_of_space, value_head};
 ghost use Rattle.abc_tidy_entries.specs.Heads.{TellHeads};
 ghost use Rattle.abc_file_types.specs.Pools.{namespace_code};
 

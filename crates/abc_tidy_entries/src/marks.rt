@@ -1,6 +1,6 @@
 ghost use Rattle.std.specs.Prelude.{◌≡◌, ℕ, ◌<◌, false, length, replicate, set, true, IfOk};
 ghost use Rattle.abc_base_graphs.specs.Graph.{Has};
-ghost use Rattle.abc_base_trees.specs.Orders.{In};
+ghost use Rattle.abc_base_trees.specs.Orders.{StandsIn};
 
 use abc_base::{NoMemory, Table};
 use std::alloc::Global;
@@ -30,7 +30,7 @@ fn mark(marks: &mut Table<bool>, place: usize)
 /// A mark for each of so many nodes, which is set for those of a list.
 pub fn marks_of(alloc: Global, count: usize, nodes: &Table<u32>) -> Result<Table<bool>, NoMemory>
     ensures many { IfOk result (λ m. length m ≡ count) }
-    ensures marked { IfOk result (λ m. (y : ℕ) → In y nodes.now → y < count → Has m y) }
+    ensures marked { IfOk result (λ m. (y : ℕ) → StandsIn y nodes.now → y < count → Has m y) }
 {
     let mut marks = no_marks(alloc, count)?;
     for node in nodes.as_slice() {

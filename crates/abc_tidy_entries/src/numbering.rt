@@ -1,10 +1,10 @@
 ghost use Rattle.std.specs.Prelude.{◌≡◌, ◌<◌, ◌+◌, ◌^◌, ℕ, Some, get_or, length, map, replicate, set, IfOk, OnOk};
 ghost use Rattle.abc_tidy_refs.specs.Nodes.{counts_of, node_count};
 ghost use Rattle.abc_base_trees.specs.Alike.{AreAlike};
-ghost use Rattle.abc_base_trees.specs.Classes.{AllClassed, AreApart, AreClasses, AreDistinct};
+ghost use Rattle.abc_base_trees.specs.Classes.{AllClassed, HaveOwnClasses, AreTreeClasses, AreDistinct};
 ghost use Rattle.abc_tidy_entries.specs.Entries.{graph_of, heads_of};
-ghost use Rattle.abc_tidy_entries.specs.Numbered.{ArePlaces, AreNodeNumbers, AreNumbersMet, next_number, node_number, noted};
-ghost use Rattle.abc_tidy_entries.specs.Visited.{AreNumbers, pool_index as index_of_pool, roots_of as roots_of_file};
+ghost use Rattle.abc_tidy_entries.specs.Numbered.{AreClassPlaces, AreNodeNumbers, AreNumbersMet, next_of_pool, node_number, with_place};
+ghost use Rattle.abc_tidy_entries.specs.Visited.{NumberNodes, pool_of_node as index_of_pool, roots_of as roots_of_file};
 
 use crate::checks::count_of;
 use abc_base::{NoMemory, Table};
@@ -83,7 +83,7 @@ fn read_number(numbers: &Table<u32>, place: usize) -> u32
 /// Notes the place of a class, if there is one.
 fn note_place(places: &mut Table<usize>, class: Option<usize>, place: usize)
     requires { (c : ℕ) → class ≡ Some c → c < length places.old }
-    ensures { places.new ≡ noted places.old class place }
+    ensures { places.new ≡ with_place places.old class place }
 {
     match class {
         Some(class) => places.set(class, place),
@@ -99,9 +99,9 @@ fn places_of(
     _heads: &Table<Head>,
     _graph: &Rows<u32>,
 ) -> Result<Table<usize>, NoMemory>
-    requires valid { AreClasses _heads.now _graph.now classes.now.keys.keys classes.now.classes }
-    requires apart { AreApart classes.now.classes seen.now }
-    ensures { IfOk result (λ t. ArePlaces classes.now.classes seen.now (length seen.now) t) }
+    requires valid { AreTreeClasses _heads.now _graph.now classes.now.keys.keys classes.now.classes }
+    requires apart { HaveOwnClasses classes.now.classes seen.now }
+    ensures { IfOk result (λ t. AreClassPlaces classes.now.classes seen.now (length seen.now) t) }
 {
     let mut places = zeros(alloc, classes.keys.len())?;
     for i in 0..seen.len() {
@@ -133,8 +133,10 @@ impl Counters {
     #[tactic(auto, using(crate::proofs::Numbered::counted))]
     fn number(&mut self, counts: &Counts, node: u32) -> Result<u32, NoMemory>
         requires { length self.old.met ≡ 8 }
-        ensures is { IfOk result (λ n. n ≡ next_number counts.now self.old.met node) }
-        ensures met { OnOk result (self.new.met ≡ set self.old.met (index_of_pool counts.now node) (get_or self.old.met (index_of_pool counts.now node) 0 + 1)) }
+        ensures is { IfOk result (λ n. n ≡ next_of_pool counts.now self.old.met node) }
+        ensures met { OnOk result (self.new.met
+            ≡ set self.old.met (index_of_pool counts.now node)
+            (get_or self.old.met (index_of_pool counts.now node) 0 + 1)) }
     {
         let pool = pool_index(counts, node);
         let number = self.count(pool)?;
@@ -213,12 +215,12 @@ pub fn numbers_of(
     requires counts { counts.now ≡ counts_of _abc.now }
     requires heads { AreAlike classes.now.classes heads.now (heads_of _abc.now) }
     requires graph { graph.now ≡ graph_of _abc.now }
-    requires valid { AreClasses heads.now graph.now classes.now.keys.keys classes.now.classes }
+    requires valid { AreTreeClasses heads.now graph.now classes.now.keys.keys classes.now.classes }
     requires distinct { AreDistinct classes.now.keys.keys }
     requires roots { AllClassed classes.now.classes (roots_of_file _abc.now) }
     requires classed { AllClassed classes.now.classes seen.now }
-    requires apart { AreApart classes.now.classes seen.now }
-    ensures { IfOk result (λ t. AreNumbers _abc.now seen.now t) }
+    requires apart { HaveOwnClasses classes.now.classes seen.now }
+    ensures { IfOk result (λ t. NumberNodes _abc.now seen.now t) }
 {
     let count = count_of(graph.len())?;
     let places = places_of(alloc, classes, seen, heads, graph)?;

@@ -1,10 +1,10 @@
 ghost use Rattle.std.specs.Prelude.{◌≡◌, ◌<◌, ◌≤◌, ◌+◌, ◌++◌, ◌∷◌, ◌^◌, [], false, get_or, map, length, IfOk, IsFalse, IsTrue, OnOk};
 ghost use Rattle.std.specs.Str.{bytes_eq};
-ghost use Rattle.abc_base_graphs.specs.Index.{Finds};
+ghost use Rattle.abc_base_graphs.specs.Index.{FindsPlace};
 ghost use Rattle.abc_base_graphs.specs.Texts.{HasTexts, number_among, texts_of};
 ghost use Rattle.abc_tidy_refs.specs.Nodes.{counts_of, node_count};
 ghost use Rattle.abc_tidy_entries.specs.Entries.{double_places as places_of_doubles, int_places as places_of_ints, place_among, text_places as places_of_strings, uint_places as places_of_uints};
-ghost use Rattle.abc_tidy_entries.specs.Heads.{ArePlaced, HasPlaces, HoldsMarked, TellApart};
+ghost use Rattle.abc_tidy_entries.specs.Heads.{ArePlaced, HasHeadPlaces, HoldsMarked, TellApart};
 
 use abc_base::{Bytes, NoMemory, Table};
 use abc_base_graphs::{Texts, index_of};
@@ -51,7 +51,7 @@ fn place_of<K: Eq + Hash + Copy>(
     value: K,
     is_marked: bool,
 ) -> u32
-    requires { Finds K.eq index.now _chosen.now }
+    requires { FindsPlace K.eq index.now _chosen.now }
     ensures { IsTrue is_marked → result ≡ place_among K.eq _chosen.now value }
 {
     if !is_marked {
@@ -151,7 +151,8 @@ fn places_of_texts(
 ) -> Result<Table<u32>, NoMemory>
     requires texts { HasTexts texts.now (texts_of chosen.now) }
     requires marks { begin + length strings.now ≤ length marks.now }
-    ensures { IfOk result (λ t. HasPlaces bytes_eq marks.now begin strings.now (texts_of chosen.now) (length strings.now) t) }
+    ensures { IfOk result (λ t. HasHeadPlaces bytes_eq marks.now begin strings.now (texts_of chosen.now)
+        (length strings.now) t) }
 {
     let mut places = Table::new(alloc);
     for i in 0..strings.len() {
@@ -216,7 +217,8 @@ pub(crate) fn double_places(
 ) -> Result<Table<u32>, NoMemory>
     requires few { node_count (counts_of abc.now) < 2 ^ 32 }
     requires marks { length marks.now ≡ node_count (counts_of abc.now) }
-    ensures { IfOk result (λ t. TellApart marks.now (1 + length (abc.now).ints + length (abc.now).uints) t (places_of_doubles abc.now)) }
+    ensures { IfOk result (λ t. TellApart marks.now (1 + length (abc.now).ints + length (abc.now).uints) t
+        (places_of_doubles abc.now)) }
 {
     let doubles = doubles_of(alloc, abc)?;
     let begin = 1 + abc.ints.len() + abc.uints.len();
@@ -227,7 +229,9 @@ pub(crate) fn double_places(
 pub(crate) fn text_places(alloc: Global, abc: &Abc, marks: &[bool]) -> Result<Table<u32>, NoMemory>
     requires few { node_count (counts_of abc.now) < 2 ^ 32 }
     requires marks { length marks.now ≡ node_count (counts_of abc.now) }
-    ensures { IfOk result (λ t. TellApart marks.now (1 + length (abc.now).ints + length (abc.now).uints + length (abc.now).doubles) t (places_of_strings abc.now)) }
+    ensures { IfOk result (λ t. TellApart marks.now
+        (1 + length (abc.now).ints + length (abc.now).uints + length (abc.now).doubles) t
+        (places_of_strings abc.now)) }
 {
     let begin = 1 + abc.ints.len() + abc.uints.len() + abc.doubles.len();
     let places = first_texts(alloc, &abc.strings, marks, begin)?;

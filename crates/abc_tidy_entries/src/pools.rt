@@ -1,7 +1,7 @@
 ghost use Rattle.std.specs.Prelude.{◌≡◌, ◌+◌, ◌-◌, ◌<◌, ◌^◌, [], map, nat_lt, slice_get, option_copied, if◌then◌else◌, IfOk, OnOk};
 ghost use Rattle.std.specs.Option.{option_to_list};
 ghost use Rattle.abc_tidy_refs.specs.Nodes.{node_count};
-ghost use Rattle.abc_tidy_entries.specs.NewPools.{kept, new_name, new_pools as pools_with, new_set, new_space, picked, picked_at, pools_over};
+ghost use Rattle.abc_tidy_entries.specs.NewPools.{same_entry, new_name, new_pools as pools_with, new_set, new_space, entries_of_nodes, picked_at, pools_over};
 
 use abc_base::{Bytes, NoMemory, Table};
 use abc_file_types::{Abc, BoxedList, Eight, Multiname, Namespace, Pool};
@@ -20,7 +20,7 @@ pub(crate) trait Entry: Drop {
 }
 
 impl Entry for i32 {
-    ghost new = { kept };
+    ghost new = { same_entry };
 
     fn renumbered(&self, _alloc: Global, _numbers: &Numbers) -> Result<i32, NoMemory> {
         Ok(*self)
@@ -28,7 +28,7 @@ impl Entry for i32 {
 }
 
 impl Entry for u32 {
-    ghost new = { kept };
+    ghost new = { same_entry };
 
     fn renumbered(&self, _alloc: Global, _numbers: &Numbers) -> Result<u32, NoMemory> {
         Ok(*self)
@@ -36,7 +36,7 @@ impl Entry for u32 {
 }
 
 impl Entry for Eight {
-    ghost new = { kept };
+    ghost new = { same_entry };
 
     fn renumbered(&self, _alloc: Global, _numbers: &Numbers) -> Result<Eight, NoMemory> {
         Ok(*self)
@@ -44,7 +44,7 @@ impl Entry for Eight {
 }
 
 impl Entry for Bytes {
-    ghost new = { kept };
+    ghost new = { same_entry };
 
     fn renumbered(&self, alloc: Global, _numbers: &Numbers) -> Result<Bytes, NoMemory> {
         Bytes::from_slice(alloc, self.as_slice())
@@ -125,7 +125,7 @@ fn new_pool<T: Entry>(
     items: &Table<T>,
     seen: &Table<u32>,
 ) -> Result<Table<T>, NoMemory>
-    ensures { IfOk result (λ t. t ≡ map (T.new numbers.now) (picked before items.now seen.now)) }
+    ensures { IfOk result (λ t. t ≡ map (T.new numbers.now) (entries_of_nodes before items.now seen.now)) }
 {
     let mut pool = Table::new(alloc);
     for node in seen.as_slice() {

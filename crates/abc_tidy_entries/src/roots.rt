@@ -1,9 +1,9 @@
 ghost use Rattle.std.specs.Prelude.{◌≡◌, ◌<◌, ◌^◌, ◌&&◌, [], length, true, IfOk, IsTrue, OnErr, OnOk, All};
 ghost use Rattle.abc_tidy_refs.specs.Nodes.{counts_of, node_count};
 ghost use Rattle.abc_tidy_refs.specs.Refs.{file_refs};
-ghost use Rattle.abc_tidy_entries.specs.Once.{AreMarks, is_in, once, with_one};
-ghost use Rattle.abc_tidy_entries.specs.Roots.{is_there as is_there_in, with_ref};
-ghost use Rattle.abc_tidy_entries.specs.Rules.{IsThere};
+ghost use Rattle.abc_tidy_entries.specs.Once.{AreListMarks, is_in_list, once, with_one};
+ghost use Rattle.abc_tidy_entries.specs.Roots.{is_root_there as is_there_in, with_ref};
+ghost use Rattle.abc_tidy_entries.specs.Rules.{IsEntryThere};
 ghost use Rattle.abc_tidy_entries.specs.Visited.{roots_of as roots_of_file};
 
 use crate::checks::names_pool;
@@ -27,8 +27,8 @@ impl Distinct {
     #[tactic(auto, using(crate::proofs::Once::is_marked))]
     fn has(&self, node: u32) -> bool
         requires known { node < length self.now.marks }
-        requires marked { AreMarks self.now.marks self.now.nodes }
-        ensures { result ≡ is_in node self.now.nodes }
+        requires marked { AreListMarks self.now.marks self.now.nodes }
+        ensures { result ≡ is_in_list node self.now.nodes }
     {
         *self.marks.get(node as usize)
     }
@@ -37,9 +37,9 @@ impl Distinct {
     #[tactic(auto, using(crate::proofs::Once::kept, crate::proofs::Once::added, crate::proofs::Once::marked_one))]
     fn add(&mut self, node: u32) -> Result<(), NoMemory>
         requires known { node < length self.old.marks }
-        requires marked { AreMarks self.old.marks self.old.nodes }
+        requires marked { AreListMarks self.old.marks self.old.nodes }
         ensures nodes { OnOk result (self.new.nodes ≡ with_one self.old.nodes node) }
-        ensures marked { OnOk result (AreMarks self.new.marks self.new.nodes) }
+        ensures marked { OnOk result (AreListMarks self.new.marks self.new.nodes) }
         ensures many { OnOk result (length self.new.marks ≡ length self.old.marks) }
         ensures err { OnErr result (self.new ≡ self.old) }
     {
@@ -77,14 +77,15 @@ struct Roots {
 impl Model for Roots {
     ghost use Rattle.std.specs.Prelude.{◌≡◌, ◌<◌, ◌^◌, length};
     ghost use Rattle.abc_tidy_refs.specs.Nodes.{node_count};
-    ghost use Rattle.abc_tidy_entries.specs.Once.{AreMarks};
+    ghost use Rattle.abc_tidy_entries.specs.Once.{AreListMarks};
     ghost use Rattle.abc_tidy_entries.specs.Roots.{RootsView};
 
     ghost Value = { RootsView };
 
     ghost view = { λ r. record { counts = r.counts; nodes = r.found.nodes; are_there = r.are_there } };
 
-    ghost invariant = { λ r. (node_count r.counts < 2 ^ 32) × (length r.found.marks ≡ node_count r.counts) × AreMarks r.found.marks r.found.nodes };
+    ghost invariant = { λ r. (node_count r.counts < 2 ^ 32) × (length r.found.marks ≡ node_count r.counts)
+        × AreListMarks r.found.marks r.found.nodes };
 }
 
 impl Roots {
@@ -145,7 +146,7 @@ pub fn named_in(alloc: Global, abc: &Abc, counts: Counts) -> Result<Named, NoMem
     requires counts { counts ≡ counts_of abc.now }
     requires few { node_count counts < 2 ^ 32 }
     ensures nodes { IfOk result (λ n. n.nodes ≡ once (roots_of_file abc.now)) }
-    ensures there { IfOk result (λ n. IsTrue n.are_there → All (IsThere abc.now) (file_refs abc.now)) }
+    ensures there { IfOk result (λ n. IsTrue n.are_there → All (IsEntryThere abc.now) (file_refs abc.now)) }
 {
     let mut roots = Roots::new(alloc, counts)?;
     note_file(abc, &mut roots)?;

@@ -24,34 +24,34 @@ abbrev pub node_count : Counts → ℕ
 node_count c = c.ints + c.uints + c.doubles + c.strings + c.namespaces + c.sets + c.names + 1
 
 -- the node of an index, in a pool of so many entries, before which there are so many others
-abbrev pub node_at : ℕ → ℕ → ℕ → ℕ
-node_at before size index = if nat_eq index 0 then 0 else if nat_le index size then before + index else 0
+abbrev pub node_in_pool : ℕ → ℕ → ℕ → ℕ
+node_in_pool before size index = if nat_eq index 0 then 0 else if nat_le index size then before + index else 0
 
 -- the node of the index of a set; it is 0 where there is no such set
 abbrev pub set_node : Counts → ℕ → ℕ
-set_node c index = node_at (c.ints + c.uints + c.doubles + c.strings + c.namespaces) c.sets index
+set_node c index = node_in_pool (c.ints + c.uints + c.doubles + c.strings + c.namespaces) c.sets index
 
 -- the node of an index into a pool; it is 0 where the index is of no entry
 abbrev pub node_of : Counts → Pool → ℕ → ℕ
 node_of c pools.NoPool index = 0
-node_of c pools.Int index = node_at 0 c.ints index
-node_of c pools.UInt index = node_at c.ints c.uints index
-node_of c pools.Double index = node_at (c.ints + c.uints) c.doubles index
-node_of c pools.Text index = node_at (c.ints + c.uints + c.doubles) c.strings index
-node_of c pools.Space index = node_at (c.ints + c.uints + c.doubles + c.strings) c.namespaces index
-node_of c pools.Name index = node_at (c.ints + c.uints + c.doubles + c.strings + c.namespaces + c.sets) c.names index
+node_of c pools.Int index = node_in_pool 0 c.ints index
+node_of c pools.UInt index = node_in_pool c.ints c.uints index
+node_of c pools.Double index = node_in_pool (c.ints + c.uints) c.doubles index
+node_of c pools.Text index = node_in_pool (c.ints + c.uints + c.doubles) c.strings index
+node_of c pools.Space index = node_in_pool (c.ints + c.uints + c.doubles + c.strings) c.namespaces index
+node_of c pools.Name index = node_in_pool (c.ints + c.uints + c.doubles + c.strings + c.namespaces + c.sets) c.names index
 
 -- ---- new numbers
 
 -- the new index for an index; what is no index of a pool stays
-abbrev pub number_in : Numbers → Pool → ℕ → ℕ
-number_in n pools.NoPool index = index
-number_in n pools.Int index = get_or n.numbers (node_of n.counts pools.Int index) 0
-number_in n pools.UInt index = get_or n.numbers (node_of n.counts pools.UInt index) 0
-number_in n pools.Double index = get_or n.numbers (node_of n.counts pools.Double index) 0
-number_in n pools.Text index = get_or n.numbers (node_of n.counts pools.Text index) 0
-number_in n pools.Space index = get_or n.numbers (node_of n.counts pools.Space index) 0
-number_in n pools.Name index = get_or n.numbers (node_of n.counts pools.Name index) 0
+abbrev pub new_index : Numbers → Pool → ℕ → ℕ
+new_index n pools.NoPool index = index
+new_index n pools.Int index = get_or n.numbers (node_of n.counts pools.Int index) 0
+new_index n pools.UInt index = get_or n.numbers (node_of n.counts pools.UInt index) 0
+new_index n pools.Double index = get_or n.numbers (node_of n.counts pools.Double index) 0
+new_index n pools.Text index = get_or n.numbers (node_of n.counts pools.Text index) 0
+new_index n pools.Space index = get_or n.numbers (node_of n.counts pools.Space index) 0
+new_index n pools.Name index = get_or n.numbers (node_of n.counts pools.Name index) 0
 
 -- the new index for the index of a set
 abbrev pub set_number_in : Numbers → ℕ → ℕ

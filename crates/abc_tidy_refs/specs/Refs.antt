@@ -28,8 +28,8 @@ abbrev pub ref : Pool → ℕ → Ref
 ref pool index = record { pool = pool; index = index }
 
 -- indices that all name entries of one pool
-abbrev pub each : Pool → List ℕ → List Ref
-each pool xs = map (ref pool) xs
+abbrev pub refs_of : Pool → List ℕ → List Ref
+refs_of pool xs = map (ref pool) xs
 
 -- ---- methods and metadata
 
@@ -57,11 +57,11 @@ option_refs o = ref (value_pool o.kind) o.value ∷ []
 -- the names of parameters are strings
 abbrev pub method_refs : Method → List Ref
 method_refs m =
-    (ref pools.Name m.ret ∷ []) ++ each pools.Name m.params ++ (ref pools.Text m.name ∷ []) ++ flat_map option_refs m.options
-    ++ each pools.Text m.param_names
+    (ref pools.Name m.ret ∷ []) ++ refs_of pools.Name m.params ++ (ref pools.Text m.name ∷ []) ++ flat_map option_refs m.options
+    ++ refs_of pools.Text m.param_names
 
 abbrev pub metadata_refs : Metadata → List Ref
-metadata_refs m = (ref pools.Text m.name ∷ []) ++ each pools.Text m.items
+metadata_refs m = (ref pools.Text m.name ∷ []) ++ refs_of pools.Text m.items
 
 -- ---- traits, classes and scripts
 
@@ -86,7 +86,7 @@ protected_refs (Some space) = ref pools.Space space ∷ []
 
 abbrev pub instance_refs : Instance → List Ref
 instance_refs i =
-    (ref pools.Name i.name ∷ []) ++ (ref pools.Name i.super_name ∷ []) ++ protected_refs i.protected_ns ++ each pools.Name i.interfaces
+    (ref pools.Name i.name ∷ []) ++ (ref pools.Name i.super_name ∷ []) ++ protected_refs i.protected_ns ++ refs_of pools.Name i.interfaces
     ++ flat_map trait_refs i.traits
 
 abbrev pub class_refs : ClassInfo → List Ref

@@ -50,8 +50,8 @@ new_trait_body f (bodies.Function id method) = bodies.Function id method
 abbrev pub new_trait : Renumbering → TraitInfo → TraitInfo
 new_trait f t = record { name = f pools.Name t.name; attrs = t.attrs; body = new_trait_body f t.body; metadata = t.metadata }
 
-abbrev pub new_instance : Renumbering → Instance → Instance
-new_instance f i = record {
+abbrev pub renumbered_instance : Renumbering → Instance → Instance
+renumbered_instance f i = record {
   name = f pools.Name i.name;
   super_name = f pools.Name i.super_name;
   flags = i.flags;
@@ -61,8 +61,8 @@ new_instance f i = record {
   traits = map (new_trait f) i.traits;
 }
 
-abbrev pub new_class : Renumbering → ClassInfo → ClassInfo
-new_class f c = record { cinit = c.cinit; traits = map (new_trait f) c.traits }
+abbrev pub renumbered_class : Renumbering → ClassInfo → ClassInfo
+renumbered_class f c = record { cinit = c.cinit; traits = map (new_trait f) c.traits }
 
 abbrev pub new_script : Renumbering → Script → Script
 new_script f s = record { init = s.init; traits = map (new_trait f) s.traits }
@@ -104,8 +104,8 @@ abbrev pub new_file : Renumbering → Abc → Abc
 new_file f v = record v {
   methods = map (new_method f) v.methods;
   metadata = map (new_metadata f) v.metadata;
-  instances = map (new_instance f) v.instances;
-  classes = map (new_class f) v.classes;
+  instances = map (renumbered_instance f) v.instances;
+  classes = map (renumbered_class f) v.classes;
   scripts = map (new_script f) v.scripts;
   bodies = map (new_body f) v.bodies;
 }

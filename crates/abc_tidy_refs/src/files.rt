@@ -1,5 +1,5 @@
 ghost use Rattle.std.specs.Prelude.{◌≡◌, fold, IfOk, OnOk};
-ghost use Rattle.abc_tidy_refs.specs.Nodes.{number_in};
+ghost use Rattle.abc_tidy_refs.specs.Nodes.{new_index};
 ghost use Rattle.abc_tidy_refs.specs.Refs.{file_refs};
 ghost use Rattle.abc_tidy_refs.specs.Renumbered.{new_file};
 
@@ -35,7 +35,7 @@ pub fn refs_of(alloc: Global, abc: &Abc) -> Result<Table<Ref>, NoMemory>
 
 /// Puts new numbers in the place of the indices of a file's definitions and bodies. Its pools stay. It takes no memory.
 pub fn renumber(alloc: Global, abc: &mut Abc, numbers: &Numbers)
-    ensures { abc.new ≡ new_file (number_in numbers.now) abc.old }
+    ensures { abc.new ≡ new_file (new_index numbers.now) abc.old }
 {
     abc.methods.renumber(alloc, numbers);
     abc.metadata.renumber(alloc, numbers);

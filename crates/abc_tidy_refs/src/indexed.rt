@@ -1,6 +1,6 @@
 ghost use Rattle.std.specs.Prelude.{◌≡◌, fold, map, IfOk, IsFalse, OnOk};
 ghost use Rattle.std.specs.List.{flat_map};
-ghost use Rattle.abc_tidy_refs.specs.Nodes.{number_in};
+ghost use Rattle.abc_tidy_refs.specs.Nodes.{new_index};
 
 use crate::nodes::Numbers;
 use crate::noting::Noting;
@@ -26,7 +26,7 @@ pub trait Indexed: Drop {
 
     /// Whether new numbers may change the value.
     fn may_change(&self, _numbers: &Numbers) -> bool
-        ensures { IsFalse result → renumbered (number_in _numbers.now) self.now ≡ self.now }
+        ensures { IsFalse result → renumbered (new_index _numbers.now) self.now ≡ self.now }
     {
         true
     }
@@ -36,7 +36,7 @@ pub trait Indexed: Drop {
 
     /// Puts new numbers in the place of the indices.
     fn renumber(&mut self, alloc: Global, numbers: &Numbers)
-        ensures { self.new ≡ renumbered (number_in numbers.now) self.old };
+        ensures { self.new ≡ renumbered (new_index numbers.now) self.old };
 }
 
 impl<T: Indexed> Indexed for Table<T> {
@@ -77,14 +77,14 @@ impl<T: Indexed> Indexed for Table<T> {
 
 /// Whether an index of a pool gets another number.
 pub(crate) fn gets_other(pool: Pool, index: u32, numbers: &Numbers) -> bool
-    ensures { IsFalse result → number_in numbers.now pool index ≡ index }
+    ensures { IsFalse result → new_index numbers.now pool index ≡ index }
 {
     numbers.number(pool, index) != index
 }
 
 /// Puts new numbers in the place of indices of one pool.
 pub(crate) fn renumber_each(pool: Pool, indices: &mut Table<u32>, numbers: &Numbers)
-    ensures { indices.new ≡ map (number_in numbers.now pool) indices.old }
+    ensures { indices.new ≡ map (new_index numbers.now pool) indices.old }
 {
     for i in 0..indices.len() {
         let index = *indices.get(i);
@@ -99,7 +99,7 @@ pub fn renumber_all(
     indices: &Table<u32>,
     numbers: &Numbers,
 ) -> Result<Table<u32>, NoMemory>
-    ensures { IfOk result (λ t. t ≡ map (number_in numbers.now pool) indices.now) }
+    ensures { IfOk result (λ t. t ≡ map (new_index numbers.now pool) indices.now) }
 {
     let mut new = Table::new(alloc);
     for index in indices.as_slice() {

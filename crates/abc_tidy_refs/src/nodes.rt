@@ -1,5 +1,5 @@
 ghost use Rattle.std.specs.Prelude.{◌≡◌, ◌<◌, ◌^◌, get_or, MatchOption};
-ghost use Rattle.abc_tidy_refs.specs.Nodes.{counts_of, node_at as at, node_count, node_of, number_in, set_node, set_number_in};
+ghost use Rattle.abc_tidy_refs.specs.Nodes.{counts_of, node_in_pool as at, node_count, node_of, new_index, set_node, set_number_in};
 
 use abc_base::Table;
 use abc_file_types::{Abc, Pool};
@@ -125,7 +125,7 @@ impl Numbers {
 
     /// The new number for an index of a pool; a number that names nothing stays.
     pub fn number(&self, pool: Pool, index: u32) -> u32
-        ensures { result ≡ number_in self.now pool index }
+        ensures { result ≡ new_index self.now pool index }
     {
         match pool {
             Pool::NoPool => index,

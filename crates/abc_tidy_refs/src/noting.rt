@@ -1,5 +1,5 @@
 ghost use Rattle.std.specs.Prelude.{◌≡◌, ◌++◌, ◌∷◌, [], fold, OnOk};
-ghost use Rattle.abc_tidy_refs.specs.Refs.{each, ref};
+ghost use Rattle.abc_tidy_refs.specs.Refs.{refs_of, ref};
 
 use crate::refs::Ref;
 use abc_base::{NoMemory, Table};
@@ -38,7 +38,7 @@ pub(crate) fn note_each<N: Noting>(
     indices: &Table<u32>,
     found: &mut N,
 ) -> Result<(), NoMemory>
-    ensures { OnOk result (found.new ≡ fold N.with_ref found.old (each pool indices.now)) }
+    ensures { OnOk result (found.new ≡ fold N.with_ref found.old (refs_of pool indices.now)) }
 {
     for index in indices.as_slice() {
         note(pool, *index, found)?;

@@ -1,7 +1,7 @@
 ghost use Rattle.std.specs.Prelude.{◌≡◌, fold, IfOk, OnOk, option_map};
-ghost use Rattle.abc_tidy_refs.specs.Nodes.{number_in};
+ghost use Rattle.abc_tidy_refs.specs.Nodes.{new_index};
 ghost use Rattle.abc_tidy_refs.specs.Refs.{class_refs, instance_refs, protected_refs, script_refs, trait_body_refs, trait_refs, value_refs};
-ghost use Rattle.abc_tidy_refs.specs.Renumbered.{new_class, new_instance, new_option, new_script, new_trait, new_trait_body};
+ghost use Rattle.abc_tidy_refs.specs.Renumbered.{renumbered_class, renumbered_instance, new_option, new_script, new_trait, new_trait_body};
 ghost use Rattle.abc_file_types.specs.declared.opcodes.Pool.TheVariants as pools;
 
 use crate::indexed::{Indexed, renumber_each};
@@ -22,7 +22,7 @@ fn note_value<N: Noting>(value: Option<OptionValue>, found: &mut N) -> Result<()
 }
 
 fn new_value(value: Option<OptionValue>, numbers: &Numbers) -> Option<OptionValue>
-    ensures { result ≡ option_map (new_option (number_in numbers.now)) value }
+    ensures { result ≡ option_map (new_option (new_index numbers.now)) value }
 {
     match value {
         Some(option) => Some(OptionValue {
@@ -46,7 +46,7 @@ fn note_body<N: Noting>(body: TraitBody, found: &mut N) -> Result<(), NoMemory>
 }
 
 fn new_body(body: TraitBody, numbers: &Numbers) -> TraitBody
-    ensures { result ≡ new_trait_body (number_in numbers.now) body }
+    ensures { result ≡ new_trait_body (new_index numbers.now) body }
 {
     match body {
         TraitBody::Slot {
@@ -99,7 +99,7 @@ fn note_protected<N: Noting>(space: Option<u32>, found: &mut N) -> Result<(), No
 }
 
 fn new_protected(space: Option<u32>, numbers: &Numbers) -> Option<u32>
-    ensures { result ≡ option_map (number_in numbers.now pools.Space) space }
+    ensures { result ≡ option_map (new_index numbers.now pools.Space) space }
 {
     match space {
         Some(index) => Some(numbers.number(Pool::Space, index)),
@@ -110,7 +110,7 @@ fn new_protected(space: Option<u32>, numbers: &Numbers) -> Option<u32>
 impl Indexed for Instance {
     ghost refs = { instance_refs };
 
-    ghost renumbered = { new_instance };
+    ghost renumbered = { renumbered_instance };
 
     fn note_refs<N: Noting>(&self, found: &mut N) -> Result<(), NoMemory> {
         note(Pool::Name, self.name, found)?;
@@ -144,7 +144,7 @@ impl Indexed for Instance {
 impl Indexed for ClassInfo {
     ghost refs = { class_refs };
 
-    ghost renumbered = { new_class };
+    ghost renumbered = { renumbered_class };
 
     fn note_refs<N: Noting>(&self, found: &mut N) -> Result<(), NoMemory> {
         self.traits.note_refs(found)

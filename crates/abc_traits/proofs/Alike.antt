@@ -4,9 +4,9 @@ use Rattle.std.specs.Prelude.{nat_lt}
 use Rattle.std.specs.declared.result.Result.{Result}
 use Rattle.std.proofs.lemmas.Bool.{ltb-true}
 use Rattle.abc_file_types.specs.declared.reason.Reason.{Reason}
-use Rattle.abc_file_types.specs.Part.{At, Part, Refusal, refusal, checked, done, image, then_by, when, ◌>>=◌}
+use Rattle.abc_file_types.specs.Part.{At, Part, Refusal, refusal, with_test, known_value, image, then_by, when, ◌>>=◌}
 use Rattle.abc_file_types.specs.Numbers.{number, u30}
-use Rattle.abc_file_types.specs.Lists.{times, counted}
+use Rattle.abc_file_types.specs.Lists.{times, count_and_items}
 use Rattle.abc_file_types.proofs.Exact.{bind_ok, ok_is}
 
 pub record Alike {A : Type 0} (p q : Part A) : Type 0 where
@@ -38,14 +38,14 @@ pub times-alike : {A : Type 0} (n : ℕ) (p q : Part A) → Alike p q → Alike 
 times-alike zero p q h = alike_refl (times zero p)
 times-alike (suc n) p q h = image-alike _ _ _ (then-alike p q _ _ h (λ x. times-alike n p q h))
 
-pub counted-alike : {A : Type 0} (p q : Part A) → Alike p q → Alike (counted p) (counted q)
-unfolding counted
+pub counted-alike : {A : Type 0} (p q : Part A) → Alike p q → Alike (count_and_items p) (count_and_items q)
+unfolding count_and_items
 counted-alike p q h = image-alike _ _ _ (then-alike u30 u30 _ _ (alike_refl u30) (λ n. times-alike n p q h))
 
 pub when-alike : {A : Type 0} (flag : Bool) (x : A) (p q : Part A) → Alike p q → Alike (when flag x p) (when flag x q)
 unfolding when
 when-alike true x p q h = h
-when-alike false x p q h = alike_refl (done x)
+when-alike false x p q h = alike_refl (known_value x)
 
 -- ---- tests
 
@@ -57,7 +57,7 @@ tested_alike test other reason from (Ok x) h = rw (h x.0 x.1 refl) refl
 tested_alike test other reason from (Err e) h = refl
 
 -- the tests need to agree only on what is read
-pub checked-alike : {A : Type 0} (test other : A → Bool) (reason : Reason) (p : Part A) → ((from : At) (x : A) (after : At) → p.reads from ≡ Ok (x, after) → test x ≡ other x) → Alike (checked test reason p) (checked other reason p)
+pub checked-alike : {A : Type 0} (test other : A → Bool) (reason : Reason) (p : Part A) → ((from : At) (x : A) (after : At) → p.reads from ≡ Ok (x, after) → test x ≡ other x) → Alike (with_test test reason p) (with_test other reason p)
 checked-alike test other reason p h = record { same = λ from. tested_alike test other reason from (p.reads from) (h from) }
 
 passed : {A : Type 0} (b : Bool) (x y : A × At) (e : Refusal) → cond b (Ok x) (Err e) ≡ Ok y → (b ≡ true) × (x ≡ y)

@@ -1,9 +1,9 @@
 ghost use Rattle.std.specs.Prelude.{◌≡◌, ◌≤◌, ℕ, [], ◌∷◌, ◌++◌, None, Some, Err, length};
-ghost use Rattle.abc_file_types.specs.Lists.{counted};
+ghost use Rattle.abc_file_types.specs.Lists.{count_and_items};
 ghost use Rattle.abc_file_types.specs.Numbers.{pool_index};
 ghost use Rattle.abc_file_types.specs.Part.{image, when};
 ghost use Rattle.abc_file_types.specs.Classes.{some_index, instance, protected_bytes, instance_bytes, class_info, class_bytes, script, script_bytes};
-ghost use Rattle.abc_varint.specs.Passes.{Passes, PassesPart, nothing};
+ghost use Rattle.abc_varint.specs.Passes.{Passes, PassesPart, nothing_told};
 ghost use Rattle.abc_varint.specs.Puts.{Puts};
 ghost use Rattle.abc_varint.specs.Reads.{Reads, ReadsPart};
 
@@ -25,7 +25,8 @@ fn read_protected_if<S: Source>(
     namespaces: u32,
 ) -> Result<Option<u32>, ReadError>
     requires { w.old.kept ≡ None }
-    ensures { ReadsPart S.left S.faults (when flag None (image some_index (pool_index namespaces))) w.old source.old w.new source.new result }
+    ensures { ReadsPart S.left S.faults (when flag None (image some_index (pool_index namespaces))) w.old
+        source.old w.new source.new result }
 {
     if !flag {
         return Ok(None);
@@ -96,7 +97,8 @@ fn pass_protected_if<S: Source>(
     out: &mut Vec<u8>,
 ) -> Result<(), ReadError>
     requires { w.old.kept ≡ None }
-    ensures { PassesPart S.left S.faults (when flag None (image some_index (pool_index namespaces))) protected_bytes nothing w.old source.old w.new source.new out.old.items out.new.items result }
+    ensures { PassesPart S.left S.faults (when flag None (image some_index (pool_index namespaces)))
+        protected_bytes nothing_told w.old source.old w.new source.new out.old.items out.new.items result }
 {
     if flag {
         PoolIndex(namespaces).pass(alloc, w, source, out)?;
@@ -113,7 +115,8 @@ fn pass_instance<S: Source>(
     sizes: &Sizes,
     out: &mut Vec<u8>,
 ) -> Result<(), ReadError>
-    ensures { PassesPart S.left S.faults (instance sizes.now) instance_bytes nothing w.old source.old w.new source.new out.old.items out.new.items result }
+    ensures { PassesPart S.left S.faults (instance sizes.now) instance_bytes nothing_told w.old source.old
+        w.new source.new out.old.items out.new.items result }
 {
     EntryIndex(sizes.names).pass(alloc, w, source, out)?;
     PoolIndex(sizes.names).pass(alloc, w, source, out)?;
@@ -194,7 +197,8 @@ fn pass_class<S: Source>(
     sizes: &Sizes,
     out: &mut Vec<u8>,
 ) -> Result<(), ReadError>
-    ensures { PassesPart S.left S.faults (class_info sizes.now) class_bytes nothing w.old source.old w.new source.new out.old.items out.new.items result }
+    ensures { PassesPart S.left S.faults (class_info sizes.now) class_bytes nothing_told w.old source.old
+        w.new source.new out.old.items out.new.items result }
 {
     IndexBelow(sizes.methods).pass(alloc, w, source, out)?;
     pass_counted(&TraitCodec(*sizes), alloc, w, source, out)?;
@@ -268,7 +272,8 @@ fn pass_script<S: Source>(
     sizes: &Sizes,
     out: &mut Vec<u8>,
 ) -> Result<(), ReadError>
-    ensures { PassesPart S.left S.faults (script sizes.now) script_bytes nothing w.old source.old w.new source.new out.old.items out.new.items result }
+    ensures { PassesPart S.left S.faults (script sizes.now) script_bytes nothing_told w.old source.old w.new
+        source.new out.old.items out.new.items result }
 {
     IndexBelow(sizes.methods).pass(alloc, w, source, out)?;
     pass_counted(&TraitCodec(*sizes), alloc, w, source, out)?;

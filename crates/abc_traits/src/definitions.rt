@@ -1,12 +1,12 @@
 ghost use Rattle.std.specs.Prelude.{◌≡◌, ◌≤◌, ◌<◌, ◌^◌, ◌++◌, ℕ, None, Some, Err, OnErr, length};
-ghost use Rattle.abc_file_types.specs.Lists.{times, counted};
+ghost use Rattle.abc_file_types.specs.Lists.{times, count_and_items};
 ghost use Rattle.abc_file_types.specs.Part.{both};
 ghost use Rattle.abc_file_types.specs.Classes.{instance, class_info, script, sizes_with, definitions, definitions_bytes};
-ghost use Rattle.abc_file_types.specs.Sizes.{capped};
-ghost use Rattle.abc_traits.specs.Definitions.{with_definitions, tables};
-ghost use Rattle.abc_varint.specs.Answers.{Answers};
+ghost use Rattle.abc_file_types.specs.Sizes.{capped_sizes};
+ghost use Rattle.abc_traits.specs.Definitions.{with_later_tables, tables};
+ghost use Rattle.abc_varint.specs.Answers.{AnswersPart};
 ghost use Rattle.abc_varint.specs.Puts.{Puts, PutsWhole};
-ghost use Rattle.abc_varint.specs.Reads.{Reads, ReadsPart, stored};
+ghost use Rattle.abc_varint.specs.Reads.{Reads, ReadsPart, stored_value};
 
 use crate::classes::{ClassCodec, InstanceCodec, ScriptCodec};
 use crate::methods::{MetadataCodec, MethodCodec};
@@ -30,7 +30,7 @@ pub struct Definitions {
 
 /// The sizes of the pools, with no methods, metadata or classes.
 fn pool_sizes(abc: &Abc) -> Sizes
-    ensures { result ≡ capped (sizes_with abc.now 0 0 0) }
+    ensures { result ≡ capped_sizes (sizes_with abc.now 0 0 0) }
 {
     Sizes {
         methods: 0,
@@ -49,7 +49,9 @@ fn read_classes<S: Source>(
     count: u32,
 ) -> Result<(Table<Instance>, (Table<ClassInfo>, Table<Script>)), ReadError>
     requires { w.old.kept ≡ None }
-    ensures { ReadsPart S.left S.faults (both (times count (instance sizes.now)) (both (times count (class_info sizes.now)) (counted (script sizes.now)))) w.old source.old w.new source.new result }
+    ensures { ReadsPart S.left S.faults (both (times count (instance sizes.now))
+        (both (times count (class_info sizes.now)) (count_and_items (script sizes.now)))) w.old source.old
+        w.new source.new result }
 {
     let instances = read_times(&InstanceCodec(*sizes), alloc, w, source, count)?;
     let classes = read_times(&ClassCodec(*sizes), alloc, w, source, count)?;
@@ -100,9 +102,11 @@ pub fn read_definitions<S: Source>(
     source: &mut S,
     abc: &mut Abc,
 ) -> Result<(), ReadError>
-    ensures value { ReadsPart S.left S.faults (definitions abc.old) w.old source.old w.new source.new (stored result abc.new) }
+    ensures value { ReadsPart S.left S.faults (definitions abc.old) w.old source.old w.new source.new
+        (stored_value result abc.new) }
     ensures err { OnErr result (abc.new ≡ abc.old) }
-    ensures answers { Answers (definitions abc.old) w.old (S.left source.old) w.new (S.left source.new) (stored result abc.new) }
+    ensures answers { AnswersPart (definitions abc.old) w.old (S.left source.old) w.new (S.left source.new)
+        (stored_value result abc.new) }
 {
     let _ = w.place();
     let pools = pool_sizes(abc);

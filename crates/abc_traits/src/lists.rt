@@ -2,10 +2,10 @@ ghost use Rattle.std.specs.Prelude.{◌≡◌, ◌≤◌, ℕ, [], None, Some, E
 ghost use Rattle.std.specs.List.{flat_map};
 ghost use Rattle.abc_base.specs.Numbers.{number_bytes};
 ghost use Rattle.abc_file_types.specs.Canonical.{counted_bytes};
-ghost use Rattle.abc_file_types.specs.Lists.{times, counted};
+ghost use Rattle.abc_file_types.specs.Lists.{times, count_and_items};
 ghost use Rattle.abc_file_types.specs.Numbers.{u30};
 ghost use Rattle.abc_file_types.specs.Part.{when};
-ghost use Rattle.abc_varint.specs.Passes.{Passes, PassesPart, nothing};
+ghost use Rattle.abc_varint.specs.Passes.{Passes, PassesPart, nothing_told};
 ghost use Rattle.abc_varint.specs.Puts.{Puts};
 ghost use Rattle.abc_varint.specs.Reads.{Reads, ReadsPart, ReadsNumber};
 
@@ -52,7 +52,8 @@ pub fn read_times_if<C: Codec, S: Source>(
     count: u32,
 ) -> Result<Table<C::Item>, ReadError>
     requires { w.old.kept ≡ None }
-    ensures { ReadsPart S.left S.faults (when flag [] (times count (C.part codec.now))) w.old source.old w.new source.new result }
+    ensures { ReadsPart S.left S.faults (when flag [] (times count (C.part codec.now))) w.old source.old w.new
+        source.new result }
 {
     if flag {
         read_times(codec, alloc, w, source, count)
@@ -71,7 +72,8 @@ pub fn read_counted_if<C: Codec, S: Source>(
     source: &mut S,
 ) -> Result<Table<C::Item>, ReadError>
     requires { w.old.kept ≡ None }
-    ensures { ReadsPart S.left S.faults (when flag [] (counted (C.part codec.now))) w.old source.old w.new source.new result }
+    ensures { ReadsPart S.left S.faults (when flag [] (count_and_items (C.part codec.now))) w.old source.old
+        w.new source.new result }
 {
     if flag {
         read_counted(codec, alloc, w, source)
@@ -100,7 +102,8 @@ pub fn put_counted_if<C: Codec>(
     items: &Table<C::Item>,
     out: &mut Vec<u8>,
 ) -> Result<(), NoMemory>
-    ensures { Puts out.old.items out.new.items result (if flag then counted_bytes C.canonical items.now else []) }
+    ensures { Puts out.old.items out.new.items result
+        (if flag then counted_bytes C.canonical items.now else []) }
 {
     if flag {
         return put_counted::<C>(items, out);
@@ -120,7 +123,9 @@ pub fn pass_times_if<C: Codec, S: Source>(
     out: &mut Vec<u8>,
 ) -> Result<(), ReadError>
     requires { w.old.kept ≡ None }
-    ensures { PassesPart S.left S.faults (when flag [] (times count (C.part codec.now))) (λ xs. if flag then flat_map C.canonical xs else []) nothing w.old source.old w.new source.new out.old.items out.new.items result }
+    ensures { PassesPart S.left S.faults (when flag [] (times count (C.part codec.now)))
+        (λ xs. if flag then flat_map C.canonical xs else []) nothing_told w.old source.old w.new source.new
+        out.old.items out.new.items result }
 {
     if flag {
         pass_times(codec, alloc, w, source, count, out)?;
@@ -139,7 +144,9 @@ pub fn pass_counted_if<C: Codec, S: Source>(
     out: &mut Vec<u8>,
 ) -> Result<(), ReadError>
     requires { w.old.kept ≡ None }
-    ensures { PassesPart S.left S.faults (when flag [] (counted (C.part codec.now))) (λ xs. if flag then counted_bytes C.canonical xs else []) nothing w.old source.old w.new source.new out.old.items out.new.items result }
+    ensures { PassesPart S.left S.faults (when flag [] (count_and_items (C.part codec.now)))
+        (λ xs. if flag then counted_bytes C.canonical xs else []) nothing_told w.old source.old w.new
+        source.new out.old.items out.new.items result }
 {
     if flag {
         pass_counted(codec, alloc, w, source, out)?;

@@ -2,7 +2,7 @@ ghost use Rattle.std.specs.Prelude.{◌≡◌, ◌≤◌, ◌*◌, ◌/◌, ℕ,
 ghost use Rattle.abc_file_types.specs.Lists.{times};
 ghost use Rattle.abc_file_types.specs.Part.{when};
 ghost use Rattle.abc_file_types.specs.Methods.{method, method_bytes, metadata, metadata_bytes};
-ghost use Rattle.abc_varint.specs.Passes.{Passes, PassesPart, nothing};
+ghost use Rattle.abc_varint.specs.Passes.{Passes, PassesPart, nothing_told};
 ghost use Rattle.abc_varint.specs.Puts.{Puts};
 ghost use Rattle.abc_varint.specs.Reads.{Reads, ReadsPart};
 
@@ -69,7 +69,8 @@ fn pass_method<S: Source>(
     sizes: &Sizes,
     out: &mut Vec<u8>,
 ) -> Result<(), ReadError>
-    ensures { PassesPart S.left S.faults (method sizes.now) method_bytes nothing w.old source.old w.new source.new out.old.items out.new.items result }
+    ensures { PassesPart S.left S.faults (method sizes.now) method_bytes nothing_told w.old source.old w.new
+        source.new out.old.items out.new.items result }
 {
     let count = read_u30(w, source)?;
     put_u30(count, out)?;
@@ -155,7 +156,8 @@ fn pass_metadata<S: Source>(
     sizes: &Sizes,
     out: &mut Vec<u8>,
 ) -> Result<(), ReadError>
-    ensures { PassesPart S.left S.faults (metadata sizes.now) metadata_bytes nothing w.old source.old w.new source.new out.old.items out.new.items result }
+    ensures { PassesPart S.left S.faults (metadata sizes.now) metadata_bytes nothing_told w.old source.old
+        w.new source.new out.old.items out.new.items result }
 {
     PoolIndex(sizes.strings).pass(alloc, w, source, out)?;
     let count = read_u30(w, source)?;

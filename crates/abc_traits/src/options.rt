@@ -1,13 +1,13 @@
 ghost use Rattle.std.specs.Prelude.{◌≡◌, ◌≤◌, ℕ, [], ◌∷◌, ◌++◌, None, Some, Err, not, nat_eq, nat_le, if◌then◌else◌};
 ghost use Rattle.abc_file_types.specs.Lists.{times};
 ghost use Rattle.abc_file_types.specs.Numbers.{u30 as number30};
-ghost use Rattle.abc_file_types.specs.Part.{checked, when};
+ghost use Rattle.abc_file_types.specs.Part.{with_test, when};
 ghost use Rattle.abc_file_types.specs.declared.reason.Reason.{Reason};
 ghost use Rattle.abc_file_types.specs.declared.methods.ValueKind.TheVariants as kinds;
 ghost use Rattle.abc_file_types.specs.Methods.{value_code, value_kind, option_value, option_bytes, options};
 ghost use Rattle.abc_file_types.specs.Traits.{slot_value, slot_value_bytes};
 ghost use Rattle.abc_file_types.specs.Canonical.{counted_bytes};
-ghost use Rattle.abc_varint.specs.Passes.{Passes, PassesPart, nothing};
+ghost use Rattle.abc_varint.specs.Passes.{Passes, PassesPart, nothing_told};
 ghost use Rattle.abc_varint.specs.Puts.{Puts};
 ghost use Rattle.abc_varint.specs.Reads.{Reads, ReadsPart};
 
@@ -131,7 +131,8 @@ fn read_option_count<S: Source>(
     source: &mut S,
     params: u32,
 ) -> Result<u32, ReadError>
-    ensures { ReadsPart S.left S.faults (checked (λ c. nat_le c params) Reason.OptionCount number30) w.old source.old w.new source.new result }
+    ensures { ReadsPart S.left S.faults (with_test (λ c. nat_le c params) Reason.OptionCount number30) w.old
+        source.old w.new source.new result }
 {
     let place = w.place();
     let count = read_u30(w, source)?;
@@ -171,7 +172,8 @@ pub fn read_options_if<S: Source>(
     params: u32,
 ) -> Result<Table<OptionValue>, ReadError>
     requires { w.old.kept ≡ None }
-    ensures { ReadsPart S.left S.faults (when flag [] (options sizes.now params)) w.old source.old w.new source.new result }
+    ensures { ReadsPart S.left S.faults (when flag [] (options sizes.now params)) w.old source.old w.new
+        source.new result }
 {
     if flag {
         read_options(alloc, w, source, sizes, params)
@@ -190,7 +192,8 @@ fn pass_options<S: Source>(
     params: u32,
     out: &mut Vec<u8>,
 ) -> Result<(), ReadError>
-    ensures { PassesPart S.left S.faults (options sizes.now params) (counted_bytes option_bytes) nothing w.old source.old w.new source.new out.old.items out.new.items result }
+    ensures { PassesPart S.left S.faults (options sizes.now params) (counted_bytes option_bytes) nothing_told
+        w.old source.old w.new source.new out.old.items out.new.items result }
 {
     let count = read_option_count(w, source, params)?;
     put_u30(count, out)?;
@@ -210,7 +213,9 @@ pub fn pass_options_if<S: Source>(
     out: &mut Vec<u8>,
 ) -> Result<(), ReadError>
     requires { w.old.kept ≡ None }
-    ensures { PassesPart S.left S.faults (when flag [] (options sizes.now params)) (λ xs. if flag then counted_bytes option_bytes xs else []) nothing w.old source.old w.new source.new out.old.items out.new.items result }
+    ensures { PassesPart S.left S.faults (when flag [] (options sizes.now params))
+        (λ xs. if flag then counted_bytes option_bytes xs else []) nothing_told w.old source.old w.new
+        source.new out.old.items out.new.items result }
 {
     if flag {
         pass_options(alloc, w, source, sizes, params, out)?;
@@ -226,7 +231,8 @@ fn read_value_kind_if<S: Source>(
     source: &mut S,
 ) -> Result<ValueKind, ReadError>
     requires { w.old.kept ≡ None }
-    ensures { ReadsPart S.left S.faults (when flag kinds.Undefined value_kind) w.old source.old w.new source.new result }
+    ensures { ReadsPart S.left S.faults (when flag kinds.Undefined value_kind) w.old source.old w.new
+        source.new result }
 {
     if flag {
         read_value_kind(w, source)

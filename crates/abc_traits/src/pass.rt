@@ -22,7 +22,8 @@ fn pass_classes<S: Source>(
     out: &mut Vec<u8>,
 ) -> Result<u32, ReadError>
     requires { w.old.kept ≡ None }
-    ensures value { PassesPart S.left S.faults (class_tables sizes.now count) class_tables_bytes (λ x. length x.1.0) w.old source.old w.new source.new out.old.items out.new.items result }
+    ensures value { PassesPart S.left S.faults (class_tables sizes.now count) class_tables_bytes
+        (λ x. length x.1.0) w.old source.old w.new source.new out.old.items out.new.items result }
     ensures count { IfOk result (λ n. n ≡ count) }
 {
     pass_times(&InstanceCodec(*sizes), alloc, w, source, count, out)?;
@@ -40,7 +41,8 @@ fn pass_tables<S: Source>(
     pools: &Sizes,
     out: &mut Vec<u8>,
 ) -> Result<Sizes, ReadError>
-    ensures { PassesPart S.left S.faults (tables pools.now) tables_bytes (sizes_beside pools.now) w.old source.old w.new source.new out.old.items out.new.items result }
+    ensures { PassesPart S.left S.faults (tables pools.now) tables_bytes (sizes_beside pools.now) w.old
+        source.old w.new source.new out.old.items out.new.items result }
 {
     let methods = pass_counted(&MethodCodec(*pools), alloc, w, source, out)?;
     let metadata = pass_counted(&MetadataCodec(*pools), alloc, w, source, out)?;
@@ -66,7 +68,9 @@ pub fn pass_definitions<S: Source>(
     pools: &Sizes,
     out: &mut Vec<u8>,
 ) -> Result<Sizes, ReadError>
-    ensures { (abc : AnyAbc) → pools.now ≡ sizes_with abc 0 0 0 → PassesPart S.left S.faults (definitions abc) definitions_bytes sizes_of w.old source.old w.new source.new out.old.items out.new.items result }
+    ensures { (abc : AnyAbc) → pools.now ≡ sizes_with abc 0 0 0
+        → PassesPart S.left S.faults (definitions abc) definitions_bytes sizes_of w.old source.old w.new
+        source.new out.old.items out.new.items result }
 {
     pass_tables(alloc, w, source, pools, out)
 }

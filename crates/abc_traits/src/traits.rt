@@ -4,7 +4,7 @@ ghost use Rattle.abc_file_types.specs.Numbers.{u30, index_below, pool_index};
 ghost use Rattle.abc_file_types.specs.Part.{both, image};
 ghost use Rattle.abc_file_types.specs.declared.traits.TraitBody.TheVariants as bodies;
 ghost use Rattle.abc_file_types.specs.Traits.{slot_value, slot_value_bytes, trait_code, trait_kind, trait_kind_in, trait_fields, trait_fields_bytes, trait_info, trait_bytes};
-ghost use Rattle.abc_varint.specs.Passes.{Passes, PassesPart, nothing};
+ghost use Rattle.abc_varint.specs.Passes.{Passes, PassesPart, nothing_told};
 ghost use Rattle.abc_varint.specs.Puts.{Puts};
 ghost use Rattle.abc_varint.specs.Reads.{Reads, ReadsPart};
 
@@ -61,7 +61,9 @@ fn read_slot<S: Source>(
     sizes: &Sizes,
     constant: bool,
 ) -> Result<TraitBody, ReadError>
-    ensures { ReadsPart S.left S.faults (image (λ x. bodies.Slot x.0 x.1.0 x.1.1 constant) (both u30 (both (pool_index (sizes.now).names) (slot_value sizes.now)))) w.old source.old w.new source.new result }
+    ensures { ReadsPart S.left S.faults (image (λ x. bodies.Slot x.0 x.1.0 x.1.1 constant)
+        (both u30 (both (pool_index (sizes.now).names) (slot_value sizes.now)))) w.old source.old w.new
+        source.new result }
 {
     let id = read_u30(w, source)?;
     let ty = read_pool_index(w, source, sizes.names)?;
@@ -81,7 +83,8 @@ fn read_trait_fields<S: Source>(
     sizes: &Sizes,
     kind: TraitKind,
 ) -> Result<TraitBody, ReadError>
-    ensures { ReadsPart S.left S.faults (trait_fields sizes.now kind) w.old source.old w.new source.new result }
+    ensures { ReadsPart S.left S.faults (trait_fields sizes.now kind) w.old source.old w.new source.new
+        result }
 {
     match kind {
         TraitKind::Slot => read_slot(w, source, sizes, false),
@@ -166,7 +169,8 @@ fn put_slot(
     value: &Option<OptionValue>,
     out: &mut Vec<u8>,
 ) -> Result<(), NoMemory>
-    ensures { Puts out.old.items out.new.items result (number_bytes id ++ number_bytes ty ++ slot_value_bytes value.now) }
+    ensures { Puts out.old.items out.new.items result
+        (number_bytes id ++ number_bytes ty ++ slot_value_bytes value.now) }
 {
     put_u30(id, out)?;
     put_u30(ty, out)?;
@@ -208,7 +212,8 @@ fn pass_trait<S: Source>(
     sizes: &Sizes,
     out: &mut Vec<u8>,
 ) -> Result<(), ReadError>
-    ensures { PassesPart S.left S.faults (trait_info sizes.now) trait_bytes nothing w.old source.old w.new source.new out.old.items out.new.items result }
+    ensures { PassesPart S.left S.faults (trait_info sizes.now) trait_bytes nothing_told w.old source.old
+        w.new source.new out.old.items out.new.items result }
 {
     EntryIndex(sizes.names).pass(alloc, w, source, out)?;
     let (kind, attrs) = read_trait_kind(w, source)?;

@@ -9,9 +9,9 @@ use Rattle.abc_file_types.specs.Law.{Exact}
 use Rattle.abc_file_types.specs.Part.{Front, Part}
 use Rattle.abc_file_types.specs.Numbers.{number, s24, u8}
 use Rattle.abc_file_types.proofs.Numbers.{number-exact, u8-exact}
-use Rattle.abc_varint.specs.Ready.{IsReady, TakesNumber}
+use Rattle.abc_varint.specs.Ready.{HoldsReady, TakesNumber}
 use Rattle.abc_varint.specs.Reads.{Input, IsInput, Reads, ReadsNumber, stand}
-use Rattle.abc_varint.specs.View.{View, GoesOver, held, onward}
+use Rattle.abc_varint.specs.View.{View, GoesOver, held_bytes, onward}
 use Rattle.abc_varint.proofs.Inputs.{ahead, among, rest}
 
 -- ---- what five bytes spell
@@ -70,13 +70,13 @@ three_bytes (a ∷ b ∷ c ∷ r) z le e = ((a, (b, c)), (a ∷ [], b ∷ c ∷ 
 
 -- ---- what is read then
 
-front_of : (w : View) (s : Option (List ℕ)) (input : Input) (n : ℕ) → w.place ≤ length w.taken → IsInput w s input → IsReady n w → Front (stand w input) (take n (held w)) (stand (onward n w) input)
+front_of : (w : View) (s : Option (List ℕ)) (input : Input) (n : ℕ) → w.place ≤ length w.taken → IsInput w s input → HoldsReady n w → Front (stand w input) (take n (held_bytes w)) (stand (onward n w) input)
 front_of w s input n among is r =
-    let len : length (take n (held w)) ≡ n = omega (arith, length-take n (held w), r.held) in
-    let here : drop w.place input.bytes ≡ held w ++ rest w input = ahead w s input among is in
-    let front : take n (drop w.place input.bytes) ≡ take n (held w) = ap (λ (t : List ℕ). take n t) here ∙ take-append-le n (held w) (rest w input) r.held in
+    let len : length (take n (held_bytes w)) ≡ n = omega (arith, length-take n (held_bytes w), r.held) in
+    let here : drop w.place input.bytes ≡ held_bytes w ++ rest w input = ahead w s input among is in
+    let front : take n (drop w.place input.bytes) ≡ take n (held_bytes w) = ap (λ (t : List ℕ). take n t) here ∙ take-append-le n (held_bytes w) (rest w input) r.held in
     record {
-      parts = sym (take-append-drop n (drop w.place input.bytes)) ∙ ap (λ (t : List ℕ). t ++ drop n (drop w.place input.bytes)) front ∙ ap (λ (t : List ℕ). take n (held w) ++ t) (drop-drop n w.place input.bytes);
+      parts = sym (take-append-drop n (drop w.place input.bytes)) ∙ ap (λ (t : List ℕ). t ++ drop n (drop w.place input.bytes)) front ∙ ap (λ (t : List ℕ). take n (held_bytes w) ++ t) (drop-drop n w.place input.bytes);
       place = ap (λ (k : ℕ). w.place + k) (sym len);
       room = r.within;
       same = refl;
@@ -84,9 +84,9 @@ front_of w s input n among is r =
     }
 
 -- A value that these bytes spell is read, and the window stands after them.
-pub front_taken : {A : Type 0} (p : Part A) (x : A) (n : ℕ) (w w2 : View) (s : Option (List ℕ)) → Exact p → w.place ≤ length w.taken → IsReady n w → p.spells x (take n (held w)) → w2 ≡ onward n w → Reads p.reads w s w2 s (Ok x)
+pub front_taken : {A : Type 0} (p : Part A) (x : A) (n : ℕ) (w w2 : View) (s : Option (List ℕ)) → Exact p → w.place ≤ length w.taken → HoldsReady n w → p.spells x (take n (held_bytes w)) → w2 ≡ onward n w → Reads p.reads w s w2 s (Ok x)
 front_taken p x n w w2 s exact among r e is =
-    rw is (r.fresh, r.fresh, omega arith, refl, λ input is_input. (is_input, exact.again (stand w input) x (stand (onward n w) input) (record { front = take n (held w); spelled = e; is = front_of w s input n among is_input r })))
+    rw is (r.fresh, r.fresh, omega arith, refl, λ input is_input. (is_input, exact.again (stand w input) x (stand (onward n w) input) (record { front = take n (held_bytes w); spelled = e; is = front_of w s input n among is_input r })))
 
 pub number_taken : (x : ℕ) (w w2 : View) (s : Option (List ℕ)) → TakesNumber x w w2 → Reads number.reads w s w2 s (Ok x)
 number_taken x w w2 s t = front_taken number x t.count w w2 s number-exact (omega (arith, among w t.count t.some t.ready.held)) t.ready t.spelled t.is
@@ -103,12 +103,12 @@ number_read left faults x w w2 s t = (
 pub number_passes : (x : ℕ) (w w2 : View) → TakesNumber x w w2 → GoesOver (length (number_bytes x)) w w2
 number_passes x w w2 t =
     let at : w2.place ≡ w.place + t.count = ap (λ (v : View). v.place) t.is in
-    (omega (arith, number_shortest x (take t.count (held w)) t.spelled, length-take t.count (held w), t.ready.held), omega (arith, t.ready.before))
+    (omega (arith, number_shortest x (take t.count (held_bytes w)) t.spelled, length-take t.count (held_bytes w), t.ready.held), omega (arith, t.ready.before))
 
 first : (bs : List ℕ) (x : ℕ) → 1 ≤ length bs → x ≡ get_or bs 0 0 → take 1 bs ≡ x ∷ []
 first [] x le e = absurd (omega arith)
 first (y ∷ more) x le e = rw e refl
 
-pub byte_taken : (x : ℕ) (bytes : List ℕ) (w w2 : View) (s : Option (List ℕ)) → IsReady 1 w → bytes ≡ held w → x ≡ get_or bytes 0 0 → w2 ≡ onward 1 w → Reads u8.reads w s w2 s (Ok x)
+pub byte_taken : (x : ℕ) (bytes : List ℕ) (w w2 : View) (s : Option (List ℕ)) → HoldsReady 1 w → bytes ≡ held_bytes w → x ≡ get_or bytes 0 0 → w2 ≡ onward 1 w → Reads u8.reads w s w2 s (Ok x)
 unfolding u8
-byte_taken x bytes w w2 s r same e is = front_taken u8 x 1 w w2 s u8-exact (omega (arith, among w 1 (omega arith) r.held)) r (first (held w) x r.held (e ∙ ap (λ (l : List ℕ). get_or l 0 0) same)) is
+byte_taken x bytes w w2 s r same e is = front_taken u8 x 1 w w2 s u8-exact (omega (arith, among w 1 (omega arith) r.held)) r (first (held_bytes w) x r.held (e ∙ ap (λ (l : List ℕ). get_or l 0 0) same)) is

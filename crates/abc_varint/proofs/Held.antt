@@ -8,8 +8,8 @@ use Rattle.abc_file_types.specs.declared.reason.Reason.TheVariants as reasons
 use Rattle.abc_file_types.specs.Part.{At, refusal, limit}
 use Rattle.abc_file_types.specs.Numbers.{byte_at, u8}
 use Rattle.abc_varint.specs.declared.error.ReadError.{ReadError}
-use Rattle.abc_varint.specs.View.{View, NextOf, NextHere, held, onward}
-use Rattle.abc_varint.specs.Reads.{Input, IsInput, Reads, known, stand, told}
+use Rattle.abc_varint.specs.View.{View, NextOf, NextHere, held_bytes, onward}
+use Rattle.abc_varint.specs.Reads.{Input, IsInput, Reads, known_input, stand, told_bytes}
 use Rattle.abc_varint.proofs.Inputs.{ahead, ends_known, known_is, rest}
 
 -- a window whose block is read on by n bytes
@@ -61,10 +61,10 @@ module _ (v v1 v2 : View) (s s1 : Option (List ℕ)) (place : v1.place ≡ v.pla
   stood : (input : Input) → stand v1 input ≡ stand v input
   stood input = rw (place, end) refl
 
-  next_here : (bytes : List ℕ) (r : Result ℕ ReadError) → held v1 ≡ bytes → v.kept ≡ None → v1.kept ≡ None → (held v1 ≡ [] → told s1 ≡ []) → v1.place < v1.end → NextHere v1 bytes v2 r → Reads u8.reads v s v2 s1 r
+  next_here : (bytes : List ℕ) (r : Result ℕ ReadError) → held_bytes v1 ≡ bytes → v.kept ≡ None → v1.kept ≡ None → (held_bytes v1 ≡ [] → told_bytes s1 ≡ []) → v1.place < v1.end → NextHere v1 bytes v2 r → Reads u8.reads v s v2 s1 r
   unfolding u8
   next_here [] r is fresh clear ends lt h = rw (h.0, h.1) (λ k.
-      let input = known v1 s1 in (
+      let input = known_input v1 s1 in (
         same input (known_is v1 s1),
         ap (λ (a : At). byte_at a.end a.place a.bytes) (sym (stood input)) ∙ ap (byte_at v1.end v1.place) (ends_known v1 s1 is (ends is)) ∙ nothing v1.end v1.place lt,
       ))
@@ -82,22 +82,22 @@ module _ (v v1 v2 : View) (s s1 : Option (List ℕ)) (place : v1.place ≡ v.pla
         ),
       )
   next_here (x ∷ more) r is fresh clear ends lt (inr h) = rw (h.1, h.2) (λ k.
-      let input = known v1 s1 in
+      let input = known_input v1 s1 in
       let here : drop v1.place input.bytes ≡ x ∷ (more ++ rest v1 input) = ahead v1 s1 input (omega (arith, one_held v1.taken v1.place x more is)) (known_is v1 s1) ∙ ap (λ (t : List ℕ). t ++ rest v1 input) is in (
         same input (known_is v1 s1),
         ap (λ (a : At). byte_at a.end a.place a.bytes) (sym (stood input)) ∙ ap (byte_at v1.end v1.place) here ∙ too_far v1.end v1.place x (more ++ rest v1 input) lt h.0,
       ))
 
-  pub is_next : (r : Result ℕ ReadError) → v.kept ≡ None → v1.kept ≡ None → (v1.place < v1.end → held v1 ≡ [] → told s1 ≡ []) → NextOf v1 v2 r → Reads u8.reads v s v2 s1 r
+  pub is_next : (r : Result ℕ ReadError) → v.kept ≡ None → v1.kept ≡ None → (v1.place < v1.end → held_bytes v1 ≡ [] → told_bytes s1 ≡ []) → NextOf v1 v2 r → Reads u8.reads v s v2 s1 r
   unfolding u8
   is_next r fresh clear ends (inl h) = rw (h.1, h.2) (λ k.
-      let input = known v1 s1 in
+      let input = known_input v1 s1 in
       (same input (known_is v1 s1), ap (λ (a : At). byte_at a.end a.place a.bytes) (sym (stood input)) ∙ past v1.end v1.place (drop v1.place input.bytes) h.0))
-  is_next r fresh clear ends (inr h) = next_here (held v1) r refl fresh clear (ends h.0) h.0 h.1
+  is_next r fresh clear ends (inr h) = next_here (held_bytes v1) r refl fresh clear (ends h.0) h.0 h.1
 
 -- how many are held, as contracts see it
-pub held_room : (v w : View) (from to n : ℕ) → v ≡ w → v.place + (to - from) ≡ length v.taken → n ≤ length (held w) → n ≤ to - from
-held_room v w from to n is all le = held_count v.taken from to n v.place all (subst (λ (u : View). n ≤ length (held u)) (sym is) le)
+pub held_room : (v w : View) (from to n : ℕ) → v ≡ w → v.place + (to - from) ≡ length v.taken → n ≤ length (held_bytes w) → n ≤ to - from
+held_room v w from to n is all le = held_count v.taken from to n v.place all (subst (λ (u : View). n ≤ length (held_bytes u)) (sym is) le)
 
 pub same_place : (v w : View) → v ≡ w → v.place ≡ w.place
 same_place v w is = ap (λ (u : View). u.place) is
@@ -107,5 +107,5 @@ pub next_ok : (bs : List ℕ) (from to x : ℕ) (v w : View) → v ≡ w → fro
     → NextOf w (onward 1 v) (Ok x)
 next_ok bs from to x v w is le ne fits all before near same =
     let lt : from < to = omega arith in
-    let front : held v ≡ x ∷ take (to - (from + 1)) (drop (from + 1) bs) = all ∙ held_cons bs from to x lt fits ∙ ap (λ (n : ℕ). n ∷ take (to - (from + 1)) (drop (from + 1) bs)) (sym same) in
+    let front : held_bytes v ≡ x ∷ take (to - (from + 1)) (drop (from + 1) bs) = all ∙ held_cons bs from to x lt fits ∙ ap (λ (n : ℕ). n ∷ take (to - (from + 1)) (drop (from + 1) bs)) (sym same) in
     subst (λ (u : View). NextOf u (onward 1 v) (Ok x)) is (inr (before, rw front (inl (near, refl, refl))))

@@ -7,8 +7,8 @@ use Rattle.std.specs.Io.KnownBytes.{Consumes, Keeps as StaysKnown}
 use Rattle.std.specs.Prelude.{IsTrue, ◌↔◌}
 use Rattle.abc_varint.specs.declared.error.ReadError.{ReadError}
 use Rattle.abc_varint.specs.declared.error.ReadError.TheVariants as errors
-use Rattle.abc_varint.specs.View.{View, held, kept_of}
-use Rattle.abc_varint.specs.Reads.{Continues, Input, IsInput, known, told}
+use Rattle.abc_varint.specs.View.{View, held_bytes, error_kept}
+use Rattle.abc_varint.specs.Reads.{Continues, Input, IsInput, known_input, told_bytes}
 
 -- the bytes that follow those that were taken
 abbrev pub rest : View → Input → List ℕ
@@ -22,20 +22,20 @@ splits w (Some left) input is =
     sym (take-append-drop (length w.taken) input.bytes) ∙ ap (λ (t : List ℕ). t ++ rest w input) e
 
 -- what is known may be the input
-pub known_is : (w : View) (s : Option (List ℕ)) → IsInput w s (known w s)
+pub known_is : (w : View) (s : Option (List ℕ)) → IsInput w s (known_input w s)
 known_is w None = take-append_seam w.taken []
 known_is w (Some left) = (refl, refl)
 
 -- ahead stand the bytes that are held, and then the others
-pub ahead : (w : View) (s : Option (List ℕ)) (input : Input) → w.place ≤ length w.taken → IsInput w s input → drop w.place input.bytes ≡ held w ++ rest w input
+pub ahead : (w : View) (s : Option (List ℕ)) (input : Input) → w.place ≤ length w.taken → IsInput w s input → drop w.place input.bytes ≡ held_bytes w ++ rest w input
 ahead w s input le is = ap (λ (t : List ℕ). drop w.place t) (splits w s input is) ∙ drop-append-le w.place w.taken (rest w input) le
 
 -- where something is held, the place is among the bytes that were taken
-pub among : (w : View) (n : ℕ) → 0 < n → n ≤ length (held w) → w.place + n ≤ length w.taken
+pub among : (w : View) (n : ℕ) → 0 < n → n ≤ length (held_bytes w) → w.place + n ≤ length w.taken
 among w n lt le = omega (arith, length-drop w.place w.taken, lt, le)
 
 -- where nothing is held, nothing stands ahead but what the source tells
-pub ends_known : (w : View) (s : Option (List ℕ)) → held w ≡ [] → told s ≡ [] → drop w.place (known w s).bytes ≡ []
+pub ends_known : (w : View) (s : Option (List ℕ)) → held_bytes w ≡ [] → told_bytes s ≡ [] → drop w.place (known_input w s).bytes ≡ []
 ends_known w s none untold = rw (untold, append-nil w.taken) none
 
 -- more bytes were taken, which the source told if it tells its bytes
@@ -48,8 +48,8 @@ takes taken more input (Some left) None c is = absurd c
 takes taken more input (Some left) (Some left2) c is = (is.0, is.1 ∙ append_assoc taken more left2 ∙ ap (λ (t : List ℕ). taken ++ t) (sym c))
 
 -- what is known after a read that gave nothing might have been the input before
-pub kept_known : (w w2 : View) (s s2 : Option (List ℕ)) → w2.taken ≡ w.taken → StaysKnown s s2 → IsInput w s (known w2 s2)
-kept_known w w2 None s2 same c = rw same (take-append_seam w.taken (told s2))
+pub kept_known : (w w2 : View) (s s2 : Option (List ℕ)) → w2.taken ≡ w.taken → StaysKnown s s2 → IsInput w s (known_input w2 s2)
+kept_known w w2 None s2 same c = rw same (take-append_seam w.taken (told_bytes s2))
 kept_known w w2 (Some left) None same c = absurd c
 kept_known w w2 (Some left) (Some left2) same c = (refl, rw (same, c) refl)
 
@@ -72,19 +72,19 @@ none_left [] e = refl
 none_left (x ∷ xs) e = absurd (omega (arith, e))
 
 -- Nothing stands ahead exactly where nothing is held and the source tells of nothing more.
-pub at_end : (w : View) (s : Option (List ℕ)) (b : Bool) → (IsTrue b ↔ (held w ≡ [])) → (held w ≡ [] → told s ≡ []) → IsTrue b ↔ (drop w.place (known w s).bytes ≡ [])
+pub at_end : (w : View) (s : Option (List ℕ)) (b : Bool) → (IsTrue b ↔ (held_bytes w ≡ [])) → (held_bytes w ≡ [] → told_bytes s ≡ []) → IsTrue b ↔ (drop w.place (known_input w s).bytes ≡ [])
 at_end w s b is ends = (
   λ t. let none = is.0 t in ends_known w s none (ends none),
   λ none.
-      let count : length (drop w.place (known w s).bytes) ≡ 0 = rw none refl in
-      is.1 (none_left (held w) (omega (arith, length-drop w.place (known w s).bytes, length-drop w.place w.taken, length-append w.taken (told s), count))),
+      let count : length (drop w.place (known_input w s).bytes) ≡ 0 = rw none refl in
+      is.1 (none_left (held_bytes w) (omega (arith, length-drop w.place (known_input w s).bytes, length-drop w.place w.taken, length-append w.taken (told_bytes s), count))),
 )
 
-pub not_at_end : (w : View) (s : Option (List ℕ)) → (held w ≡ [] → ⊥) → drop w.place (known w s).bytes ≡ [] → ⊥
+pub not_at_end : (w : View) (s : Option (List ℕ)) → (held_bytes w ≡ [] → ⊥) → drop w.place (known_input w s).bytes ≡ [] → ⊥
 not_at_end w s some none =
-    let count : length (drop w.place (known w s).bytes) ≡ 0 = rw none refl in
-    some (none_left (held w) (omega (arith, length-drop w.place (known w s).bytes, length-drop w.place w.taken, length-append w.taken (told s), count)))
+    let count : length (drop w.place (known_input w s).bytes) ≡ 0 = rw none refl in
+    some (none_left (held_bytes w) (omega (arith, length-drop w.place (known_input w s).bytes, length-drop w.place w.taken, length-append w.taken (told_bytes s), count)))
 
 -- want of memory is never kept
-pub kept_is_no_memory : (e : ReadError) → kept_of e ≡ Some e → e ≡ errors.NoMemory → ⊥
-kept_is_no_memory e is same = absurd (let h : kept_of e ≡ None = ap kept_of same in cc)
+pub kept_is_no_memory : (e : ReadError) → error_kept e ≡ Some e → e ≡ errors.NoMemory → ⊥
+kept_is_no_memory e is same = absurd (let h : error_kept e ≡ None = ap error_kept same in cc)

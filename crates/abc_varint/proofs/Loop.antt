@@ -8,7 +8,7 @@ use Rattle.abc_varint.specs.declared.error.ReadError.TheVariants as errors
 use Rattle.abc_file_types.specs.Part.{At, Refusal, refusal, Part, ◌>>=◌}
 use Rattle.abc_file_types.specs.Lists.{times}
 use Rattle.abc_varint.specs.View.{View}
-use Rattle.abc_varint.specs.Reads.{Reads, Fails, Input, IsInput, stand}
+use Rattle.abc_varint.specs.Reads.{Reads, FailsReading, Input, IsInput, stand}
 
 -- what was read before, and what is still read
 abbrev pub with_front : {A : Type 0} → List A → Result (List A × At) Refusal → Result (List A × At) Refusal
@@ -51,7 +51,7 @@ goes_on p total more less items w0 s0 w s w2 s2 x k g r = record {
 
 -- an Err of the item that comes next is that of all
 pub ends : {A : Type 0} (e : ReadError) (p : Part A) (total more : ℕ) (items : List A) (w0 : View) (s0 : Option (List ℕ)) (w : View) (s : Option (List ℕ)) (input : Input)
-    → 0 < more → Going p total more items w0 s0 w s → IsInput w s input × Fails e (p.reads (stand w input)) → IsInput w0 s0 input × Fails e ((times total p).reads (stand w0 input))
+    → 0 < more → Going p total more items w0 s0 w s → IsInput w s input × FailsReading e (p.reads (stand w input)) → IsInput w0 s0 input × FailsReading e ((times total p).reads (stand w0 input))
 ends (errors.Refused place reason) p total more items w0 s0 w s input lt g f =
     let k : more ≡ suc (more - 1) = omega arith in
     let h : p.reads (stand w input) ≡ Err (refusal place reason) = f.1 in

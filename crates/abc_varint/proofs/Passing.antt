@@ -10,11 +10,11 @@ use Rattle.abc_varint.specs.declared.error.ReadError.TheVariants as errors
 use Rattle.abc_file_types.specs.Part.{At, Refusal, refusal, Part, ◌>>=◌}
 use Rattle.abc_base.specs.Numbers.{number_bytes}
 use Rattle.abc_file_types.specs.Canonical.{pool_bytes, pool_count}
-use Rattle.abc_file_types.specs.Lists.{times, counted, pool}
+use Rattle.abc_file_types.specs.Lists.{times, count_and_items, pool}
 use Rattle.abc_file_types.specs.Numbers.{u30}
 use Rattle.abc_varint.specs.View.{View}
-use Rattle.abc_varint.specs.Passes.{Passes, nothing}
-use Rattle.abc_varint.specs.Reads.{Reads, Fails, Input, IsInput, stand}
+use Rattle.abc_varint.specs.Passes.{Passes, nothing_told}
+use Rattle.abc_varint.specs.Reads.{Reads, FailsReading, Input, IsInput, stand}
 use Rattle.abc_varint.proofs.Loop.{with_front, moved, beside, joined, nothing as no_front}
 
 -- Of `total` items some were read, and their bytes were appended; `more` are to come.
@@ -40,7 +40,7 @@ starts {A = A} p canonical n old w s k = let e : n - 0 ≡ n = omega arith in re
 }
 
 pub goes_on : {A : Type 0} (p : Part A) (canonical : A → List ℕ) (total more less : ℕ) (old new new2 : List ℕ) (w0 : View) (s0 : Option (List ℕ)) (w : View) (s : Option (List ℕ)) (w2 : View) (s2 : Option (List ℕ))
-    → more ≡ suc less → PassesOn p canonical total more old new w0 s0 w s → Passes p canonical nothing w s w2 s2 new new2 (Ok tt) → PassesOn p canonical total less old new2 w0 s0 w2 s2
+    → more ≡ suc less → PassesOn p canonical total more old new w0 s0 w s → Passes p canonical nothing_told w s w2 s2 new new2 (Ok tt) → PassesOn p canonical total less old new2 w0 s0 w2 s2
 goes_on p canonical total more less old new new2 w0 s0 w s w2 s2 k g r = record {
   fresh = r.1;
   forth = omega (arith, g.forth, r.2);
@@ -54,7 +54,7 @@ goes_on p canonical total more less old new new2 w0 s0 w s w2 s2 k g r = record 
 }
 
 pub ends : {A : Type 0} (e : ReadError) (p : Part A) (canonical : A → List ℕ) (total more : ℕ) (old new : List ℕ) (w0 : View) (s0 : Option (List ℕ)) (w : View) (s : Option (List ℕ)) (input : Input)
-    → 0 < more → PassesOn p canonical total more old new w0 s0 w s → IsInput w s input × Fails e (p.reads (stand w input)) → IsInput w0 s0 input × Fails e ((times total p).reads (stand w0 input))
+    → 0 < more → PassesOn p canonical total more old new w0 s0 w s → IsInput w s input × FailsReading e (p.reads (stand w input)) → IsInput w0 s0 input × FailsReading e ((times total p).reads (stand w0 input))
 ends (errors.Refused place reason) p canonical total more old new w0 s0 w s input lt g f =
     let k : more ≡ suc (more - 1) = omega arith in
     let m = g.same input f.0 in
@@ -65,7 +65,7 @@ ends errors.ReadFault p canonical total more old new w0 s0 w s input lt g f = (g
 ends errors.NoMemory p canonical total more old new w0 s0 w s input lt g f = (g.told input f.0, tt)
 
 pub is_done : {A : Type 0} (p : Part A) (canonical : A → List ℕ) (total more : ℕ) (old new : List ℕ) (w0 : View) (s0 : Option (List ℕ)) (w : View) (s : Option (List ℕ))
-    → more ≡ 0 → w0.kept ≡ None → PassesOn p canonical total more old new w0 s0 w s → Passes (times total p) (flat_map canonical) nothing w0 s0 w s old new (Ok tt)
+    → more ≡ 0 → w0.kept ≡ None → PassesOn p canonical total more old new w0 s0 w s → Passes (times total p) (flat_map canonical) nothing_told w0 s0 w s old new (Ok tt)
 is_done {A = A} p canonical total more old new w0 s0 w s k fresh g = (
   fresh,
   g.fresh,
@@ -109,9 +109,9 @@ shortest_count n (x ∷ xs) e = let h : n ≡ suc (suc (length xs)) = omega (ari
 
 -- with what puts all items
 pub counted_passes : {A : Type 0} (p : Part A) (all : List A → List ℕ) (n : ℕ) (old middle new : List ℕ) (w : View) (s : Option (List ℕ)) (w1 : View) (s1 : Option (List ℕ)) (w2 : View) (s2 : Option (List ℕ))
-    → Reads u30.reads w s w1 s1 (Ok n) → middle ≡ old ++ number_bytes n → Passes (times n p) all nothing w1 s1 w2 s2 middle new (Ok tt)
-    → Passes (counted p) (λ xs. number_bytes (length xs) ++ all xs) length w s w2 s2 old new (Ok n)
-unfolding counted
+    → Reads u30.reads w s w1 s1 (Ok n) → middle ≡ old ++ number_bytes n → Passes (times n p) all nothing_told w1 s1 w2 s2 middle new (Ok tt)
+    → Passes (count_and_items p) (λ xs. number_bytes (length xs) ++ all xs) length w s w2 s2 old new (Ok n)
+unfolding count_and_items
 counted_passes p all n old middle new w s w1 s1 w2 s2 r b g = (
   r.0,
   g.1,
@@ -132,11 +132,11 @@ counted_passes p all n old middle new w s w1 s1 w2 s2 r b g = (
 
 -- what nothing is told of
 pub untold : {X T : Type 0} (p : Part X) (canonical : X → List ℕ) (tell : X → T) (w : View) (s : Option (List ℕ)) (w2 : View) (s2 : Option (List ℕ)) (old new : List ℕ) (t : T)
-    → Passes p canonical tell w s w2 s2 old new (Ok t) → Passes p canonical nothing w s w2 s2 old new (Ok tt)
+    → Passes p canonical tell w s w2 s2 old new (Ok t) → Passes p canonical nothing_told w s w2 s2 old new (Ok tt)
 untold p canonical tell w s w2 s2 old new t g = (g.0, g.1, g.2, g.3, λ input is. let d = g.4 input is in let x = d.1 in (d.0, record { value = x.value; read = x.read; bytes = x.bytes; tells = refl }))
 
 pub pool_passes : {A : Type 0} (p : Part A) (canonical : A → List ℕ) (n m : ℕ) (old middle new : List ℕ) (w : View) (s : Option (List ℕ)) (w1 : View) (s1 : Option (List ℕ)) (w2 : View) (s2 : Option (List ℕ))
-    → m ≡ n - 1 → Reads u30.reads w s w1 s1 (Ok n) → middle ≡ old ++ number_bytes (if nat_eq n 1 then 0 else n) → Passes (times m p) (flat_map canonical) nothing w1 s1 w2 s2 middle new (Ok tt)
+    → m ≡ n - 1 → Reads u30.reads w s w1 s1 (Ok n) → middle ≡ old ++ number_bytes (if nat_eq n 1 then 0 else n) → Passes (times m p) (flat_map canonical) nothing_told w1 s1 w2 s2 middle new (Ok tt)
     → Passes (pool p) (pool_bytes canonical) length w s w2 s2 old new (Ok m)
 unfolding pool pool_bytes
 pool_passes p canonical n m old middle new w s w1 s1 w2 s2 less r b g = (
@@ -161,5 +161,5 @@ pool_passes p canonical n m old middle new w s w1 s1 w2 s2 less r b g = (
 
 -- what is read and then put
 pub puts_read : {X : Type 0} (p : Part X) (x : X) (canonical : X → List ℕ) (old new : List ℕ) (w : View) (s : Option (List ℕ)) (w2 : View) (s2 : Option (List ℕ))
-    → Reads p.reads w s w2 s2 (Ok x) → new ≡ old ++ canonical x → Passes p canonical nothing w s w2 s2 old new (Ok tt)
+    → Reads p.reads w s w2 s2 (Ok x) → new ≡ old ++ canonical x → Passes p canonical nothing_told w s w2 s2 old new (Ok tt)
 puts_read p x canonical old new w s w2 s2 r b = (r.0, r.1, r.2, r.3, λ input is. let a = r.4 input is in (a.0, record { value = x; read = a.1; bytes = b; tells = refl }))

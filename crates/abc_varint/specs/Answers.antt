@@ -23,5 +23,5 @@ pub record AnswersSome {X : Type 0} (part : Part X) (w : View) (s : Option (List
   pub is : IsAnswer part (stand w input) (stand w2 input) r
 
 -- So it is where the window kept nothing.
-abbrev pub Answers : {X : Type 0} → Part X → View → Option (List ℕ) → View → Option (List ℕ) → Result X ReadError → Type 0
-Answers part w s w2 s2 r = w.kept ≡ None → AnswersSome part w s w2 s2 r
+abbrev pub AnswersPart : {X : Type 0} → Part X → View → Option (List ℕ) → View → Option (List ℕ) → Result X ReadError → Type 0
+AnswersPart part w s w2 s2 r = w.kept ≡ None → AnswersSome part w s w2 s2 r

@@ -3,7 +3,7 @@ use Rattle.std.specs.Prelude.{◌≡◌, ◌≤◌, ℕ, List, ◌++◌, None, O
 use Rattle.std.specs.declared.result.Result.{Result}
 use Rattle.std.specs.declared.option.Option.{Option}
 use Rattle.abc_file_types.specs.Part.{Part, At}
-use Rattle.abc_varint.specs.Reads.{AnswersAgain, Blames, Fails, Input, IsInput, Keeps, known, stand}
+use Rattle.abc_varint.specs.Reads.{AnswersKeptErr, Blames, FailsReading, Input, IsInput, WindowKeeps, known_input, stand}
 use Rattle.abc_varint.specs.View.{View}
 use Rattle.abc_varint.specs.declared.error.ReadError.{ReadError}
 
@@ -19,17 +19,17 @@ abbrev pub Passes : {X T : Type 0} → Part X → (X → List ℕ) → (X → T)
 Passes part canonical told w s w2 s2 old new (Ok t) =
     (w.kept ≡ None) × (w2.kept ≡ None) × (w.place ≤ w2.place) × (w2.end ≡ w.end)
     × ((input : Input) → IsInput w2 s2 input → IsInput w s input × Rewrites part canonical told (stand w input) (stand w2 input) old new t)
-Passes part canonical told w s w2 s2 old new (Err e) = w.kept ≡ None → IsInput w s (known w2 s2) × Fails e (part.reads (stand w (known w2 s2)))
+Passes part canonical told w s w2 s2 old new (Err e) = w.kept ≡ None → IsInput w s (known_input w2 s2) × FailsReading e (part.reads (stand w (known_input w2 s2)))
 
 -- As `ReadsPart`, of a call that keeps no value.
 abbrev pub PassesPart : {S X T : Type 0} → (S → Option (List ℕ)) → (S → ℕ) → Part X → (X → List ℕ) → (X → T) → View → S → View → S → List ℕ → List ℕ → Result T ReadError → Type 0
 PassesPart left faults part canonical told w s w2 s2 old new r =
     Passes part canonical told w (left s) w2 (left s2) old new r
-    × AnswersAgain w s w2 s2 r
+    × AnswersKeptErr w s w2 s2 r
     × (faults s ≤ faults s2)
     × Blames w (faults s) (faults s2) r
-    × Keeps w w2 r
+    × WindowKeeps w w2 r
 
 -- nothing is told
-abbrev pub nothing : {X : Type 0} → X → Unit {0}
-nothing x = tt
+abbrev pub nothing_told : {X : Type 0} → X → Unit {0}
+nothing_told x = tt

@@ -2,12 +2,12 @@
 use Rattle.std.specs.Prelude.{◌≡◌, ℕ, ◌+◌, ◌<◌, ◌≤◌, None, length, take}
 use Rattle.abc_base.specs.Numbers.{SpellsNumber}
 use Rattle.abc_file_types.specs.Part.{limit}
-use Rattle.abc_varint.specs.View.{View, held, onward}
+use Rattle.abc_varint.specs.View.{View, held_bytes, onward}
 
 -- so many bytes are held, each before the end and within the longest file, and no Err is kept
-pub record IsReady (count : ℕ) (w : View) : Type 0 where
+pub record HoldsReady (count : ℕ) (w : View) : Type 0 where
   pub fresh : w.kept ≡ None
-  pub held : count ≤ length (held w)
+  pub held : count ≤ length (held_bytes w)
   pub before : w.place + count ≤ w.end
   pub within : w.place + count ≤ limit
 
@@ -15,6 +15,6 @@ pub record IsReady (count : ℕ) (w : View) : Type 0 where
 pub record TakesNumber (x : ℕ) (w w2 : View) : Type 0 where
   pub count : ℕ
   pub some : 0 < count
-  pub ready : IsReady count w
-  pub spelled : SpellsNumber x (take count (held w))
+  pub ready : HoldsReady count w
+  pub spelled : SpellsNumber x (take count (held_bytes w))
   pub is : w2 ≡ onward count w

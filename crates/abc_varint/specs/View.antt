@@ -19,8 +19,8 @@ pub record View : Type 0 where
   pub end : ℕ
 
 -- taken from the source, and not read yet
-abbrev pub held : View → List ℕ
-held w = drop w.place w.taken
+abbrev pub held_bytes : View → List ℕ
+held_bytes w = drop w.place w.taken
 
 -- the window, n bytes further on
 abbrev pub onward : ℕ → View → View
@@ -37,14 +37,14 @@ kept_reason reasons.FileTooLong e = Some e
 kept_reason _ e = None
 
 -- A window keeps an Err of a byte or a number that can't be read, and no other.
-abbrev pub kept_of : ReadError → Option ReadError
-kept_of (errors.Refused place reason) = kept_reason reason (errors.Refused place reason)
-kept_of errors.ReadFault = Some errors.ReadFault
-kept_of errors.NoMemory = None
+abbrev pub error_kept : ReadError → Option ReadError
+error_kept (errors.Refused place reason) = kept_reason reason (errors.Refused place reason)
+error_kept errors.ReadFault = Some errors.ReadFault
+error_kept errors.NoMemory = None
 
 -- The window keeps it.
 abbrev pub IsKept : ReadError → View → Type 0
-IsKept e w = (w.kept ≡ Some e) × (kept_of e ≡ Some e)
+IsKept e w = (w.kept ≡ Some e) × (error_kept e ≡ Some e)
 
 -- ---- the next byte
 
@@ -58,7 +58,7 @@ NextHere w (x ∷ rest) new r =
 abbrev pub NextOf : View → View → Result ℕ ReadError → Type 0
 NextOf w new r =
     ((w.end ≤ w.place) × (r ≡ Err (errors.Refused w.place reasons.CodeEnds)) × (new ≡ record w { kept = Some (errors.Refused w.place reasons.CodeEnds) }))
-    ⊎ ((w.place < w.end) × NextHere w (held w) new r)
+    ⊎ ((w.place < w.end) × NextHere w (held_bytes w) new r)
 
 -- The window went over at least so many bytes, each of them before its end.
 abbrev pub GoesOver : ℕ → View → View → Type 0

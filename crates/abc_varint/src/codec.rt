@@ -2,9 +2,9 @@ ghost use Rattle.std.specs.Prelude.{◌≡◌, ◌≤◌, ◌<◌, ◌^◌, ℕ,
 ghost use Rattle.std.specs.List.{flat_map};
 ghost use Rattle.abc_base.specs.Numbers.{number_bytes};
 ghost use Rattle.abc_file_types.specs.Canonical.{counted_bytes, pool_bytes, pool_count as count_of};
-ghost use Rattle.abc_file_types.specs.Lists.{times, counted, pool};
+ghost use Rattle.abc_file_types.specs.Lists.{times, count_and_items, pool};
 ghost use Rattle.abc_file_types.specs.Part.{Part};
-ghost use Rattle.abc_varint.specs.Passes.{PassesPart, nothing};
+ghost use Rattle.abc_varint.specs.Passes.{PassesPart, nothing_told};
 ghost use Rattle.abc_varint.specs.Puts.{Puts};
 ghost use Rattle.abc_varint.specs.Reads.{Reads, ReadsPart};
 ghost use Rattle.abc_varint.specs.declared.error.ReadError.{ReadError};
@@ -52,7 +52,8 @@ pub trait Codec {
         source: &mut S,
         out: &mut Vec<u8>,
     ) -> Result<(), ReadError>
-        ensures { PassesPart S.left S.faults (part self.now) canonical nothing w.old source.old w.new source.new out.old.items out.new.items result }
+        ensures { PassesPart S.left S.faults (part self.now) canonical nothing_told w.old source.old w.new
+            source.new out.old.items out.new.items result }
     {
         let item = self.read(alloc, w, source)?;
         Self::put(&item, out)?;
@@ -70,7 +71,8 @@ pub fn read_times<C: Codec, S: Source>(
     count: u32,
 ) -> Result<Table<C::Item>, ReadError>
     requires { w.old.kept ≡ None }
-    ensures value { ReadsPart S.left S.faults (times count (C.part codec.now)) w.old source.old w.new source.new result }
+    ensures value { ReadsPart S.left S.faults (times count (C.part codec.now)) w.old source.old w.new
+        source.new result }
     ensures len { IfOk result (λ xs. length xs ≡ count) }
 {
     let mut items = Table::new(alloc);
@@ -82,14 +84,15 @@ pub fn read_times<C: Codec, S: Source>(
 }
 
 /// Reads a count below 2^30, as `read_u30` does, and that many items, as `read_times` does.
-#[tactic(auto, unfolding(abc_file_types::specs::Lists::counted))]
+#[tactic(auto, unfolding(abc_file_types::specs::Lists::count_and_items))]
 pub fn read_counted<C: Codec, S: Source>(
     codec: &C,
     alloc: Global,
     w: &mut Window,
     source: &mut S,
 ) -> Result<Table<C::Item>, ReadError>
-    ensures value { ReadsPart S.left S.faults (counted (C.part codec.now)) w.old source.old w.new source.new result }
+    ensures value { ReadsPart S.left S.faults (count_and_items (C.part codec.now)) w.old source.old w.new
+        source.new result }
     ensures len { IfOk result (λ xs. length xs < 2 ^ 30) }
 {
     let count = next_u30(w, source)?;
@@ -106,7 +109,8 @@ pub fn read_pool<C: Codec, S: Source>(
     w: &mut Window,
     source: &mut S,
 ) -> Result<Table<C::Item>, ReadError>
-    ensures value { ReadsPart S.left S.faults (pool (C.part codec.now)) w.old source.old w.new source.new result }
+    ensures value { ReadsPart S.left S.faults (pool (C.part codec.now)) w.old source.old w.new source.new
+        result }
     ensures len { IfOk result (λ xs. length xs < 2 ^ 30) }
 {
     let count = next_u30(w, source)?;
@@ -168,7 +172,7 @@ pub struct Counted<C>(pub C);
 impl<C: Codec> Codec for Counted<C> {
     type Item = Table<C::Item>;
 
-    ghost part = { λ c. counted (C.part c.0) };
+    ghost part = { λ c. count_and_items (C.part c.0) };
 
     ghost canonical = { λ xs. counted_bytes C.canonical xs };
 

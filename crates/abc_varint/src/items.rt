@@ -1,6 +1,6 @@
 ghost use Rattle.abc_base.specs.Numbers.{number_bytes};
 ghost use Rattle.abc_file_types.specs.Canonical.{s32_bytes, text_bytes as bytes_of};
-ghost use Rattle.abc_file_types.specs.Lists.{text};
+ghost use Rattle.abc_file_types.specs.Lists.{bytes_with_count};
 ghost use Rattle.abc_file_types.specs.Numbers.{u32 as wide, s32 as signed, index_below as below, pool_index as in_pool, entry_index as of_entry};
 
 use crate::codec::Codec;
@@ -144,7 +144,7 @@ pub struct Text;
 impl Codec for Text {
     type Item = Bytes;
 
-    ghost part = { λ _. text };
+    ghost part = { λ _. bytes_with_count };
 
     ghost canonical = { bytes_of };
 

@@ -1,7 +1,7 @@
 ghost use Rattle.std.specs.Prelude.{◌≡◌, ◌≤◌, ◌<◌, ◌*◌, ◌+◌, ◌%◌, ◌^◌, Some, Err, IfOk, IfErr, OnErr, OnOk, length, take};
 ghost use Rattle.abc_base.specs.Numbers.{number_bytes, signed24};
 ghost use Rattle.abc_file_types.specs.Numbers.{groups, number, u16 as two_bytes, u30 as small, u32 as wide, s24 as offset, s32 as signed, index_below as below, pool_index as in_pool, entry_index as of_entry};
-ghost use Rattle.abc_varint.specs.Reads.{AnswersAgain, Blames, Reads, ReadsNumber, ReadsPart};
+ghost use Rattle.abc_varint.specs.Reads.{AnswersKeptErr, Blames, Reads, ReadsNumber, ReadsPart};
 ghost use Rattle.abc_varint.specs.View.{IsKept, GoesOver};
 ghost use Rattle.abc_varint.specs.declared.error.ReadError.{ReadError};
 
@@ -20,7 +20,7 @@ fn next_groups<S: Source>(
 ) -> Result<u64, ReadError>
     requires { more ≤ 5 }
     ensures value { Reads (groups more start) w.old (S.left source.old) w.new (S.left source.new) result }
-    ensures kept { 0 < more → AnswersAgain w.old source.old w.new source.new result }
+    ensures kept { 0 < more → AnswersKeptErr w.old source.old w.new source.new result }
     ensures no_memory { result ≡ Err ReadError.NoMemory → ⊥ }
     ensures keeps { IfErr result (λ e. IsKept e w.new) }
     ensures stays { OnErr result (w.new.end ≡ w.old.end) }

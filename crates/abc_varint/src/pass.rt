@@ -2,8 +2,8 @@ ghost use Rattle.std.specs.Prelude.{◌≡◌, ◌≤◌, ◌<◌, ◌^◌, IfOk
 ghost use Rattle.std.specs.List.{flat_map};
 ghost use Rattle.abc_base.specs.Numbers.{number_bytes};
 ghost use Rattle.abc_file_types.specs.Canonical.{counted_bytes, pool_bytes};
-ghost use Rattle.abc_file_types.specs.Lists.{times, counted, pool};
-ghost use Rattle.abc_varint.specs.Passes.{Passes, PassesPart, nothing};
+ghost use Rattle.abc_file_types.specs.Lists.{times, count_and_items, pool};
+ghost use Rattle.abc_varint.specs.Passes.{Passes, PassesPart, nothing_told};
 ghost use Rattle.abc_varint.specs.Reads.{Reads, ReadsPart};
 
 use crate::codec::Codec;
@@ -25,7 +25,8 @@ pub fn pass_times<C: Codec, S: Source>(
     out: &mut Vec<u8>,
 ) -> Result<(), ReadError>
     requires { w.old.kept ≡ None }
-    ensures { PassesPart S.left S.faults (times count (C.part codec.now)) (flat_map C.canonical) nothing w.old source.old w.new source.new out.old.items out.new.items result }
+    ensures { PassesPart S.left S.faults (times count (C.part codec.now)) (flat_map C.canonical) nothing_told
+        w.old source.old w.new source.new out.old.items out.new.items result }
 {
     for _ in 0..count {
         codec.pass(alloc, w, source, out)?;
@@ -35,7 +36,7 @@ pub fn pass_times<C: Codec, S: Source>(
 
 /// Reads a count below 2^30 and that many items, and appends their canonical bytes, as `pass_times` does. Gives how many
 /// there are.
-#[tactic(auto, unfolding(abc_file_types::specs::Lists::counted, abc_file_types::specs::Canonical::counted_bytes), using(crate::proofs::Passing::times_count, std::proofs::Common::append_assoc))]
+#[tactic(auto, unfolding(abc_file_types::specs::Lists::count_and_items, abc_file_types::specs::Canonical::counted_bytes), using(crate::proofs::Passing::times_count, std::proofs::Common::append_assoc))]
 pub fn pass_counted<C: Codec, S: Source>(
     codec: &C,
     alloc: Global,
@@ -43,7 +44,9 @@ pub fn pass_counted<C: Codec, S: Source>(
     source: &mut S,
     out: &mut Vec<u8>,
 ) -> Result<u32, ReadError>
-    ensures value { PassesPart S.left S.faults (counted (C.part codec.now)) (counted_bytes C.canonical) length w.old source.old w.new source.new out.old.items out.new.items result }
+    ensures value { PassesPart S.left S.faults (count_and_items (C.part codec.now))
+        (counted_bytes C.canonical) length w.old source.old w.new source.new out.old.items out.new.items
+        result }
     ensures few { IfOk result (λ n. n < 2 ^ 30) }
 {
     let count = next_u30(w, source)?;
@@ -69,7 +72,8 @@ pub fn pass_pool<C: Codec, S: Source>(
     source: &mut S,
     out: &mut Vec<u8>,
 ) -> Result<u32, ReadError>
-    ensures value { PassesPart S.left S.faults (pool (C.part codec.now)) (pool_bytes C.canonical) length w.old source.old w.new source.new out.old.items out.new.items result }
+    ensures value { PassesPart S.left S.faults (pool (C.part codec.now)) (pool_bytes C.canonical) length w.old
+        source.old w.new source.new out.old.items out.new.items result }
     ensures few { IfOk result (λ n. n < 2 ^ 30) }
 {
     let count = next_u30(w, source)?;

@@ -1,7 +1,7 @@
 ghost use Rattle.std.specs.Prelude.{◌≡◌, ◌≤◌, ◌<◌, ◌+◌, ◌^◌, Err, IfOk, OnOk, length};
 ghost use Rattle.abc_base.specs.Numbers.{number_bytes};
 ghost use Rattle.abc_file_types.specs.Numbers.{u8 as octet, u16 as two_bytes, u30 as small, u32 as wide, s24 as offset, s32 as signed, index_below as below, pool_index as in_pool, entry_index as of_entry};
-ghost use Rattle.abc_varint.specs.Answers.{Answers};
+ghost use Rattle.abc_varint.specs.Answers.{AnswersPart};
 ghost use Rattle.abc_varint.specs.Reads.{ReadsNumber, ReadsPart};
 ghost use Rattle.abc_varint.specs.View.{GoesOver};
 ghost use Rattle.abc_varint.specs.declared.error.ReadError.{ReadError};
@@ -25,7 +25,7 @@ use abc_base::Source;
 #[inline(always)]
 pub fn read_u8<S: Source>(w: &mut Window, source: &mut S) -> Result<u8, ReadError>
     ensures value { ReadsNumber S.left S.faults octet w.old source.old w.new source.new result }
-    ensures answers { Answers octet w.old (S.left source.old) w.new (S.left source.new) result }
+    ensures answers { AnswersPart octet w.old (S.left source.old) w.new (S.left source.new) result }
     ensures moves { OnOk result (w.new.place ≡ w.old.place + 1) }
     ensures within { OnOk result (w.new.place ≤ w.old.end) }
 {
@@ -36,7 +36,7 @@ pub fn read_u8<S: Source>(w: &mut Window, source: &mut S) -> Result<u8, ReadErro
 #[inline(always)]
 pub fn read_u16<S: Source>(w: &mut Window, source: &mut S) -> Result<u16, ReadError>
     ensures value { ReadsNumber S.left S.faults two_bytes w.old source.old w.new source.new result }
-    ensures answers { Answers two_bytes w.old (S.left source.old) w.new (S.left source.new) result }
+    ensures answers { AnswersPart two_bytes w.old (S.left source.old) w.new (S.left source.new) result }
     ensures moves { OnOk result (w.new.place ≡ w.old.place + 2) }
 {
     next_u16(w, source)
@@ -47,7 +47,7 @@ pub fn read_u16<S: Source>(w: &mut Window, source: &mut S) -> Result<u16, ReadEr
 #[inline(always)]
 pub fn read_u30<S: Source>(w: &mut Window, source: &mut S) -> Result<u32, ReadError>
     ensures value { ReadsNumber S.left S.faults small w.old source.old w.new source.new result }
-    ensures answers { Answers small w.old (S.left source.old) w.new (S.left source.new) result }
+    ensures answers { AnswersPart small w.old (S.left source.old) w.new (S.left source.new) result }
     ensures bound { IfOk result (λ x. x < 2 ^ 30) }
     ensures rises { OnOk result (w.old.place < w.new.place) }
     ensures passes { IfOk result (λ x. GoesOver (length (number_bytes x)) w.old w.new) }
@@ -59,7 +59,7 @@ pub fn read_u30<S: Source>(w: &mut Window, source: &mut S) -> Result<u32, ReadEr
 #[inline(always)]
 pub fn read_u32<S: Source>(w: &mut Window, source: &mut S) -> Result<u32, ReadError>
     ensures value { ReadsNumber S.left S.faults wide w.old source.old w.new source.new result }
-    ensures answers { Answers wide w.old (S.left source.old) w.new (S.left source.new) result }
+    ensures answers { AnswersPart wide w.old (S.left source.old) w.new (S.left source.new) result }
     ensures rises { OnOk result (w.old.place < w.new.place) }
     ensures passes { IfOk result (λ x. GoesOver (length (number_bytes x)) w.old w.new) }
 {
@@ -70,7 +70,7 @@ pub fn read_u32<S: Source>(w: &mut Window, source: &mut S) -> Result<u32, ReadEr
 #[inline(always)]
 pub fn read_s32<S: Source>(w: &mut Window, source: &mut S) -> Result<i32, ReadError>
     ensures value { ReadsNumber S.left S.faults signed w.old source.old w.new source.new result }
-    ensures answers { Answers signed w.old (S.left source.old) w.new (S.left source.new) result }
+    ensures answers { AnswersPart signed w.old (S.left source.old) w.new (S.left source.new) result }
     ensures rises { OnOk result (w.old.place < w.new.place) }
 {
     next_s32(w, source)
@@ -80,7 +80,7 @@ pub fn read_s32<S: Source>(w: &mut Window, source: &mut S) -> Result<i32, ReadEr
 #[inline(always)]
 pub fn read_s24<S: Source>(w: &mut Window, source: &mut S) -> Result<i32, ReadError>
     ensures value { ReadsNumber S.left S.faults offset w.old source.old w.new source.new result }
-    ensures answers { Answers offset w.old (S.left source.old) w.new (S.left source.new) result }
+    ensures answers { AnswersPart offset w.old (S.left source.old) w.new (S.left source.new) result }
     ensures moves { OnOk result (w.new.place ≡ w.old.place + 3) }
     ensures within { OnOk result (w.new.place ≤ w.old.end) }
 {
@@ -92,7 +92,7 @@ pub fn read_s24<S: Source>(w: &mut Window, source: &mut S) -> Result<i32, ReadEr
 #[inline(always)]
 pub fn read_index_below<S: Source>(w: &mut Window, source: &mut S, n: u32) -> Result<u32, ReadError>
     ensures value { ReadsPart S.left S.faults (below n) w.old source.old w.new source.new result }
-    ensures answers { Answers (below n) w.old (S.left source.old) w.new (S.left source.new) result }
+    ensures answers { AnswersPart (below n) w.old (S.left source.old) w.new (S.left source.new) result }
     ensures no_memory { result ≡ Err ReadError.NoMemory → ⊥ }
     ensures rises { OnOk result (w.old.place < w.new.place) }
 {
@@ -104,7 +104,7 @@ pub fn read_index_below<S: Source>(w: &mut Window, source: &mut S, n: u32) -> Re
 #[inline(always)]
 pub fn read_pool_index<S: Source>(w: &mut Window, source: &mut S, n: u32) -> Result<u32, ReadError>
     ensures value { ReadsPart S.left S.faults (in_pool n) w.old source.old w.new source.new result }
-    ensures answers { Answers (in_pool n) w.old (S.left source.old) w.new (S.left source.new) result }
+    ensures answers { AnswersPart (in_pool n) w.old (S.left source.old) w.new (S.left source.new) result }
     ensures no_memory { result ≡ Err ReadError.NoMemory → ⊥ }
     ensures rises { OnOk result (w.old.place < w.new.place) }
 {
@@ -116,7 +116,7 @@ pub fn read_pool_index<S: Source>(w: &mut Window, source: &mut S, n: u32) -> Res
 #[inline(always)]
 pub fn read_entry_index<S: Source>(w: &mut Window, source: &mut S, n: u32) -> Result<u32, ReadError>
     ensures value { ReadsPart S.left S.faults (of_entry n) w.old source.old w.new source.new result }
-    ensures answers { Answers (of_entry n) w.old (S.left source.old) w.new (S.left source.new) result }
+    ensures answers { AnswersPart (of_entry n) w.old (S.left source.old) w.new (S.left source.new) result }
     ensures no_memory { result ≡ Err ReadError.NoMemory → ⊥ }
     ensures rises { OnOk result (w.old.place < w.new.place) }
 {

@@ -1,8 +1,8 @@
 ghost use Rattle.std.specs.Prelude.{◌≡◌, ◌≤◌, ◌<◌, ◌^◌, IfOk, length, None};
 ghost use Rattle.abc_file_types.specs.Canonical.{text_bytes};
-ghost use Rattle.abc_file_types.specs.Lists.{text, times};
+ghost use Rattle.abc_file_types.specs.Lists.{bytes_with_count, times};
 ghost use Rattle.abc_file_types.specs.Numbers.{u8 as octet};
-ghost use Rattle.abc_varint.specs.Passes.{PassesPart, nothing};
+ghost use Rattle.abc_varint.specs.Passes.{PassesPart, nothing_told};
 ghost use Rattle.abc_varint.specs.Reads.{ReadsPart};
 
 use crate::error::ReadError;
@@ -58,13 +58,13 @@ fn gather_bytes<S: Source>(
 
 /// Reads a text: a count below 2^30, as `read_u30` does, and that many bytes, as `read_bytes` does. They need not be
 /// UTF-8.
-#[tactic(auto, unfolding(abc_file_types::specs::Lists::text, abc_file_types::specs::Lists::counted))]
+#[tactic(auto, unfolding(abc_file_types::specs::Lists::bytes_with_count, abc_file_types::specs::Lists::count_and_items))]
 pub fn read_text<S: Source>(
     alloc: Global,
     w: &mut Window,
     source: &mut S,
 ) -> Result<Bytes, ReadError>
-    ensures value { ReadsPart S.left S.faults text w.old source.old w.new source.new result }
+    ensures value { ReadsPart S.left S.faults bytes_with_count w.old source.old w.new source.new result }
     ensures len { IfOk result (λ b. length b < 2 ^ 30) }
 {
     let count = next_u30(w, source)?;
@@ -82,7 +82,8 @@ fn pass_bytes<S: Source>(
     out: &mut Vec<u8>,
 ) -> Result<(), ReadError>
     requires { w.old.kept ≡ None }
-    ensures { PassesPart S.left S.faults (times count octet) (λ b. b) nothing w.old source.old w.new source.new out.old.items out.new.items result }
+    ensures { PassesPart S.left S.faults (times count octet) (λ b. b) nothing_told w.old source.old w.new
+        source.new out.old.items out.new.items result }
 {
     if w.is_ready(count) {
         let size = count as usize;
@@ -96,14 +97,15 @@ fn pass_bytes<S: Source>(
 }
 
 /// Reads a text, as `read_text` does, and appends its canonical bytes. Gives the number of its bytes.
-#[tactic(auto, unfolding(abc_file_types::specs::Lists::text, abc_file_types::specs::Lists::counted, abc_file_types::specs::Canonical::text_bytes))]
+#[tactic(auto, unfolding(abc_file_types::specs::Lists::bytes_with_count, abc_file_types::specs::Lists::count_and_items, abc_file_types::specs::Canonical::text_bytes))]
 pub fn pass_text<S: Source>(
     alloc: Global,
     w: &mut Window,
     source: &mut S,
     out: &mut Vec<u8>,
 ) -> Result<u32, ReadError>
-    ensures { PassesPart S.left S.faults text text_bytes length w.old source.old w.new source.new out.old.items out.new.items result }
+    ensures { PassesPart S.left S.faults bytes_with_count text_bytes length w.old source.old w.new source.new
+        out.old.items out.new.items result }
 {
     let count = next_u30(w, source)?;
     put_u30(count, out)?;

@@ -5,10 +5,10 @@ ghost use Rattle.std.specs.Io.KnownBytes.{ReadConsumes};
 ghost use Rattle.abc_base.specs.Faults.{HasCause, Rose};
 ghost use Rattle.abc_base.specs.Numbers.{SpellsNumber};
 ghost use Rattle.abc_file_types.specs.Numbers.{u8 as octet};
-ghost use Rattle.abc_varint.specs.View.{IsKept, NextOf, held, kept_of, onward};
+ghost use Rattle.abc_varint.specs.View.{IsKept, NextOf, held_bytes, error_kept, onward};
 ghost use Rattle.abc_varint.specs.declared.error.ReadError.{ReadError};
-ghost use Rattle.abc_varint.specs.Reads.{AnswersAgain, Blames, Input, IsInput, Keeps, Reads, known, stand, told};
-ghost use Rattle.abc_varint.specs.Ready.{IsReady, TakesNumber};
+ghost use Rattle.abc_varint.specs.Reads.{AnswersKeptErr, Blames, Input, IsInput, WindowKeeps, Reads, known_input, stand, told_bytes};
+ghost use Rattle.abc_varint.specs.Ready.{HoldsReady, TakesNumber};
 
 use crate::error::ReadError;
 use crate::taken::Taken;
@@ -42,14 +42,18 @@ pub struct Window {
 
 impl Model for Window {
     ghost use Rattle.std.specs.Prelude.{◌≡◌, ◌+◌, ◌-◌, ◌≤◌, ◌<◌, ◌^◌, Some, take, drop, length};
-    ghost use Rattle.abc_varint.specs.View.{View, kept_of};
+    ghost use Rattle.abc_varint.specs.View.{View, error_kept};
     ghost use Rattle.abc_varint.specs.declared.error.ReadError.{ReadError};
 
     ghost Value = { View };
 
     ghost view = { λ w. record { place = w.place; taken = w.taken.bytes; kept = w.kept; end = w.end } };
 
-    ghost invariant = { λ w. (w.from ≤ w.to) × (w.to ≤ length w.block.items) × (length w.block.items ≡ 4096) × (w.place ≤ 2 ^ 24) × (w.place + (w.to - w.from) ≤ 2 ^ 24 + 1) × (w.place + (w.to - w.from) ≡ length w.taken.bytes) × (drop w.place w.taken.bytes ≡ take (w.to - w.from) (drop w.from w.block.items)) × ((e : ReadError) → w.kept ≡ Some e → kept_of e ≡ Some e) };
+    ghost invariant = { λ w. (w.from ≤ w.to) × (w.to ≤ length w.block.items) × (length w.block.items ≡ 4096)
+        × (w.place ≤ 2 ^ 24) × (w.place + (w.to - w.from) ≤ 2 ^ 24 + 1)
+        × (w.place + (w.to - w.from) ≡ length w.taken.bytes)
+        × (drop w.place w.taken.bytes ≡ take (w.to - w.from) (drop w.from w.block.items))
+        × ((e : ReadError) → w.kept ≡ Some e → error_kept e ≡ Some e) };
 }
 
 impl Window {
@@ -99,7 +103,7 @@ impl Window {
     #[cold]
     #[inline(never)]
     pub(crate) fn refuse(&mut self, place: u32, reason: Reason) -> ReadError
-        requires { kept_of (ReadError.Refused place reason) ≡ Some (ReadError.Refused place reason) }
+        requires { error_kept (ReadError.Refused place reason) ≡ Some (ReadError.Refused place reason) }
         ensures is { result ≡ ReadError.Refused place reason }
         ensures keeps { self.new ≡ record self.old { kept = Some result } }
     {
@@ -123,7 +127,7 @@ impl Window {
     /// A window holds at most 4,096 bytes that were taken from its source and not read yet, and takes at most 2^24 + 1 in
     /// all.
     pub fn stays_small(&self)
-        ensures held { length (held self.now) ≤ 4096 }
+        ensures held { length (held_bytes self.now) ≤ 4096 }
         ensures taken { length self.now.taken ≤ 2 ^ 24 + 1 }
     {
         // So that what holds of every window is known here.
@@ -134,18 +138,23 @@ impl Window {
     /// again. `ReadFault` comes only where the source's count of faults rose, and is kept.
     #[tactic(auto, using(crate::proofs::Inputs::not_at_end))]
     pub fn is_at_end<S: Source>(&mut self, source: &mut S) -> Result<bool, ReadError>
-        ensures ok { OnOk result ((self.old.kept ≡ None) × (self.new.kept ≡ None) × (self.new.place ≡ self.old.place) × (self.new.end ≡ self.old.end)) }
-        ensures same { OnOk result ((input : Input) → IsInput self.new (S.left source.new) input → IsInput self.old (S.left source.old) input) }
-        ensures value { IfOk result (λ b. IsTrue b ↔ (drop self.new.place (known self.new (S.left source.new)).bytes ≡ [])) }
-        ensures none { IfOk result (λ b. IsTrue b → told (S.left source.new) ≡ []) }
-        ensures input { self.old.kept ≡ None → OnErr result (IsInput self.old (S.left source.old) (known self.new (S.left source.new))) }
+        ensures ok { OnOk result ((self.old.kept ≡ None) × (self.new.kept ≡ None)
+            × (self.new.place ≡ self.old.place) × (self.new.end ≡ self.old.end)) }
+        ensures same { OnOk result ((input : Input) → IsInput self.new (S.left source.new) input
+            → IsInput self.old (S.left source.old) input) }
+        ensures value { IfOk result
+            (λ b. IsTrue b ↔ (drop self.new.place (known_input self.new (S.left source.new)).bytes ≡ [])) }
+        ensures none { IfOk result (λ b. IsTrue b → told_bytes (S.left source.new) ≡ []) }
+        ensures input { self.old.kept ≡ None
+            → OnErr result (IsInput self.old (S.left source.old) (known_input self.new (S.left source.new))) }
         ensures stays { OnErr result (self.new.end ≡ self.old.end) }
         ensures keeps { IfErr result (λ e. IsKept e self.new) }
-        ensures kept { AnswersAgain self.old source.old self.new source.new result }
+        ensures kept { AnswersKeptErr self.old source.old self.new source.new result }
         ensures no_memory { result ≡ Err ReadError.NoMemory → ⊥ }
         ensures fault { self.old.kept ≡ None → IfErr result (λ e. e ≡ ReadError.ReadFault) }
         ensures later { S.faults source.old ≤ S.faults source.new }
-        ensures cause { self.old.kept ≡ None → OnErr result (Rose (S.faults source.old) (S.faults source.new)) }
+        ensures cause { self.old.kept ≡ None
+            → OnErr result (Rose (S.faults source.old) (S.faults source.new)) }
     {
         if let Some(e) = self.kept {
             return Err(e);
@@ -160,7 +169,7 @@ impl Window {
     /// Whether no byte is held.
     #[inline]
     fn is_used_up(&self) -> bool
-        ensures { IsTrue result ↔ (held self.now ≡ []) }
+        ensures { IsTrue result ↔ (held_bytes self.now ≡ []) }
     {
         self.from == self.to
     }
@@ -192,17 +201,22 @@ impl Window {
 
     /// Has a byte at hand, unless nothing is left.
     fn prepare<S: Source>(&mut self, source: &mut S) -> Result<(), ReadError>
-        ensures ok { OnOk result ((self.old.kept ≡ None) × (self.new.kept ≡ None) × (self.new.place ≡ self.old.place) × (self.new.end ≡ self.old.end)) }
-        ensures same { OnOk result ((input : Input) → IsInput self.new (S.left source.new) input → IsInput self.old (S.left source.old) input) }
-        ensures end { OnOk result (self.old.place < self.old.end → held self.new ≡ [] → told (S.left source.new) ≡ []) }
-        ensures input { self.old.kept ≡ None → OnErr result (IsInput self.old (S.left source.old) (known self.new (S.left source.new))) }
+        ensures ok { OnOk result ((self.old.kept ≡ None) × (self.new.kept ≡ None)
+            × (self.new.place ≡ self.old.place) × (self.new.end ≡ self.old.end)) }
+        ensures same { OnOk result ((input : Input) → IsInput self.new (S.left source.new) input
+            → IsInput self.old (S.left source.old) input) }
+        ensures end { OnOk result
+            (self.old.place < self.old.end → held_bytes self.new ≡ [] → told_bytes (S.left source.new) ≡ []) }
+        ensures input { self.old.kept ≡ None
+            → OnErr result (IsInput self.old (S.left source.old) (known_input self.new (S.left source.new))) }
         ensures stays { OnErr result (self.new.end ≡ self.old.end) }
         ensures keeps { IfErr result (λ e. IsKept e self.new) }
-        ensures kept { AnswersAgain self.old source.old self.new source.new result }
+        ensures kept { AnswersKeptErr self.old source.old self.new source.new result }
         ensures no_memory { result ≡ Err ReadError.NoMemory → ⊥ }
         ensures fault { self.old.kept ≡ None → IfErr result (λ e. e ≡ ReadError.ReadFault) }
         ensures later { S.faults source.old ≤ S.faults source.new }
-        ensures cause { self.old.kept ≡ None → OnErr result (Rose (S.faults source.old) (S.faults source.new)) }
+        ensures cause { self.old.kept ≡ None
+            → OnErr result (Rose (S.faults source.old) (S.faults source.new)) }
     {
         if let Some(e) = self.kept {
             return Err(e);
@@ -215,12 +229,15 @@ impl Window {
 
     /// Takes bytes from the source, where none are held.
     fn fill<S: Source>(&mut self, source: &mut S) -> Result<(), ReadError>
-        requires empty { held self.old ≡ [] }
+        requires empty { held_bytes self.old ≡ [] }
         requires fresh { self.old.kept ≡ None }
-        ensures ok { OnOk result ((self.new.kept ≡ None) × (self.new.place ≡ self.old.place) × (self.new.end ≡ self.old.end)) }
-        ensures same { OnOk result ((input : Input) → IsInput self.new (S.left source.new) input → IsInput self.old (S.left source.old) input) }
-        ensures end { OnOk result (held self.new ≡ [] → told (S.left source.new) ≡ []) }
-        ensures input { OnErr result (IsInput self.old (S.left source.old) (known self.new (S.left source.new))) }
+        ensures ok { OnOk result
+            ((self.new.kept ≡ None) × (self.new.place ≡ self.old.place) × (self.new.end ≡ self.old.end)) }
+        ensures same { OnOk result ((input : Input) → IsInput self.new (S.left source.new) input
+            → IsInput self.old (S.left source.old) input) }
+        ensures end { OnOk result (held_bytes self.new ≡ [] → told_bytes (S.left source.new) ≡ []) }
+        ensures input { OnErr result
+            (IsInput self.old (S.left source.old) (known_input self.new (S.left source.new))) }
         ensures stays { OnErr result (self.new.end ≡ self.old.end) }
         ensures keeps { IfErr result (λ e. (e ≡ ReadError.ReadFault) × IsKept e self.new) }
         ensures later { S.faults source.old ≤ S.faults source.new }
@@ -244,10 +261,11 @@ impl Window {
     /// Moves bytes that are held to the end of `out`, and answers how many: at most `count`, and none that stands at
     /// the end or after it, or past the longest file. Where memory runs out nothing changes.
     pub(crate) fn take_held(&mut self, count: u32, out: &mut Bytes) -> Result<u32, NoMemory>
-        ensures few { IfOk result (λ n. (n ≤ count) × (n ≤ length (held self.old))) }
-        ensures room { IfOk result (λ n. (0 < n → self.old.place + n ≤ self.old.end) × (self.old.place + n ≤ 2 ^ 24)) }
+        ensures few { IfOk result (λ n. (n ≤ count) × (n ≤ length (held_bytes self.old))) }
+        ensures room { IfOk result
+            (λ n. (0 < n → self.old.place + n ≤ self.old.end) × (self.old.place + n ≤ 2 ^ 24)) }
         ensures window { IfOk result (λ n. self.new ≡ onward n self.old) }
-        ensures bytes { IfOk result (λ n. out.new ≡ out.old ++ take n (held self.old)) }
+        ensures bytes { IfOk result (λ n. out.new ≡ out.old ++ take n (held_bytes self.old)) }
         ensures same { OnErr result ((self.new ≡ self.old) × (out.new ≡ out.old)) }
     {
         let room = self.end.min(LIMIT).saturating_sub(self.place);
@@ -263,8 +281,9 @@ impl Window {
     /// the longest file, since at most one byte past it is ever held.
     #[inline]
     pub fn is_ready(&self, count: u32) -> bool
-        ensures ready { IsTrue result → IsReady count self.now }
-        ensures always { self.now.kept ≡ None → count < length (held self.now) → self.now.place + count ≤ self.now.end → IsTrue result }
+        ensures ready { IsTrue result → HoldsReady count self.now }
+        ensures always { self.now.kept ≡ None → count < length (held_bytes self.now)
+            → self.now.place + count ≤ self.now.end → IsTrue result }
     {
         self.kept.is_none()
             && self.to - self.from > count as usize
@@ -274,7 +293,7 @@ impl Window {
     /// The bytes that are held: taken from the source, and not read yet.
     #[inline]
     pub fn held(&self) -> &[u8]
-        ensures { result.now ≡ held self.now }
+        ensures { result.now ≡ held_bytes self.now }
     {
         &self.block[self.from..self.to]
     }
@@ -282,7 +301,7 @@ impl Window {
     /// Goes on, past so many of the bytes that are held.
     #[inline]
     pub fn go_on(&mut self, count: usize)
-        requires { IsReady count self.old }
+        requires { HoldsReady count self.old }
         ensures { self.new ≡ onward count self.old }
     {
         self.from += count;
@@ -312,7 +331,7 @@ impl Window {
         ensures moves { OnOk result (self.new.place ≡ self.old.place + 1) }
         ensures within { OnOk result (self.new.place ≤ self.old.end) }
         ensures stays { OnErr result (self.new.end ≡ self.old.end) }
-        ensures kept { AnswersAgain self.old source.old self.new source.new result }
+        ensures kept { AnswersKeptErr self.old source.old self.new source.new result }
         ensures no_memory { result ≡ Err ReadError.NoMemory → ⊥ }
         ensures later { S.faults source.old ≤ S.faults source.new }
         ensures cause { Blames self.old (S.faults source.old) (S.faults source.new) result }
@@ -336,7 +355,7 @@ impl Window {
         ensures moves { OnOk result (self.new.place ≡ self.old.place + 1) }
         ensures within { OnOk result (self.new.place ≤ self.old.end) }
         ensures stays { OnErr result (self.new.end ≡ self.old.end) }
-        ensures kept { AnswersAgain self.old source.old self.new source.new result }
+        ensures kept { AnswersKeptErr self.old source.old self.new source.new result }
         ensures no_memory { result ≡ Err ReadError.NoMemory → ⊥ }
         ensures later { S.faults source.old ≤ S.faults source.new }
         ensures cause { Blames self.old (S.faults source.old) (S.faults source.new) result }

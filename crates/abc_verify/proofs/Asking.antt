@@ -8,8 +8,8 @@ use Rattle.abc_verify_typing.specs.declared.row.Need.TheVariants.{Value, Namespa
 use Rattle.abc_verify_states.specs.declared.names.Parts.{Parts}
 use Rattle.abc_verify_states.specs.Needs.{parts_of}
 use Rattle.abc_verify_typing.specs.declared.catch.Catch.{Catch}
-use Rattle.abc_verify_typing.specs.Effects.{Here, kind_at, receiver, unfolded}
-use Rattle.abc_verify.specs.Visits.{picked}
+use Rattle.abc_verify_typing.specs.Effects.{Here, kind_at, receiver_kind, parts_of_need}
+use Rattle.abc_verify.specs.Visits.{kind_at_need}
 use Rattle.abc_verify_typing.specs.Rules.{all_suit, suits}
 use Rattle.abc_verify_typing.specs.declared.rule.VerifyRule.{VerifyRule}
 
@@ -151,7 +151,7 @@ abbrev IsPassed : Need → Type 0
 IsPassed Slotted = ⊥
 IsPassed need = Unit {0}
 
-receiver_nothing : (ns : List Need) → receiver ns [] ≡ Any
+receiver_nothing : (ns : List Need) → receiver_kind ns [] ≡ Any
 receiver_nothing [] = refl
 receiver_nothing (Value ∷ ns) = refl
 receiver_nothing (Namespace ∷ ns) = refl
@@ -160,7 +160,7 @@ receiver_nothing (Slotted ∷ ns) = refl
 receiver_nothing (Instance ∷ ns) = refl
 receiver_nothing (Runtime ∷ ns) = refl
 
-pass : (n : Need) (ns : List Need) (ks : List Kind) → IsPassed n → receiver (n ∷ ns) ks ≡ receiver ns (drop 1 ks)
+pass : (n : Need) (ns : List Need) (ks : List Kind) → IsPassed n → receiver_kind (n ∷ ns) ks ≡ receiver_kind ns (drop 1 ks)
 pass n ns [] h = receiver_nothing (n ∷ ns) ∙ sym (receiver_nothing ns)
 pass Value ns (k ∷ ks) h = refl
 pass Namespace ns (k ∷ ks) h = refl
@@ -169,27 +169,27 @@ pass Slotted ns (k ∷ ks) h = absurd h
 pass Instance ns (k ∷ ks) h = refl
 pass Runtime ns (k ∷ ks) h = refl
 
-pass_at : (n : Need) (ns : List Need) (ks : List Kind) (at : ℕ) → IsPassed n → receiver (n ∷ ns) (drop at ks) ≡ receiver ns (drop (at + 1) ks)
-pass_at n ns ks at h = pass n ns (drop at ks) h ∙ ap (λ (us : List Kind). receiver ns us) (drop_more at 1 ks)
+pass_at : (n : Need) (ns : List Need) (ks : List Kind) (at : ℕ) → IsPassed n → receiver_kind (n ∷ ns) (drop at ks) ≡ receiver_kind ns (drop (at + 1) ks)
+pass_at n ns ks at h = pass n ns (drop at ks) h ∙ ap (λ (us : List Kind). receiver_kind ns us) (drop_more at 1 ks)
 
-slotted_at : (ns : List Need) (ks : List Kind) (at : ℕ) → get_or ks at Any ≡ receiver (Slotted ∷ ns) (drop at ks)
+slotted_at : (ns : List Need) (ks : List Kind) (at : ℕ) → get_or ks at Any ≡ receiver_kind (Slotted ∷ ns) (drop at ks)
 slotted_at ns [] zero = refl
 slotted_at ns [] (suc at) = refl
 slotted_at ns (k ∷ ks) zero = refl
 slotted_at ns (k ∷ ks) (suc at) = slotted_at ns ks at
 
 -- the parts of a name are no values that have slots
-pass_parts : (x : Parts) (ns : List Need) (ks : List Kind) (at : ℕ) → receiver (parts_of x ++ ns) (drop at ks) ≡ receiver ns (drop (at + length (parts_of x)) ks)
+pass_parts : (x : Parts) (ns : List Need) (ks : List Kind) (at : ℕ) → receiver_kind (parts_of x ++ ns) (drop at ks) ≡ receiver_kind ns (drop (at + length (parts_of x)) ks)
 pass_parts x ns ks at = go x.name x.space
   where
-    go : (a b : Bool) → receiver ((cond a (Value ∷ []) [] ++ cond b (Namespace ∷ []) []) ++ ns) (drop at ks) ≡ receiver ns (drop (at + length (cond a (Value ∷ []) [] ++ cond b (Namespace ∷ []) [])) ks)
-    go true true = let z : at + 1 + 1 ≡ at + 2 = omega arith in pass_at Value (Namespace ∷ ns) ks at tt ∙ pass_at Namespace ns ks (at + 1) tt ∙ ap (λ (n : ℕ). receiver ns (drop n ks)) z
+    go : (a b : Bool) → receiver_kind ((cond a (Value ∷ []) [] ++ cond b (Namespace ∷ []) []) ++ ns) (drop at ks) ≡ receiver_kind ns (drop (at + length (cond a (Value ∷ []) [] ++ cond b (Namespace ∷ []) [])) ks)
+    go true true = let z : at + 1 + 1 ≡ at + 2 = omega arith in pass_at Value (Namespace ∷ ns) ks at tt ∙ pass_at Namespace ns ks (at + 1) tt ∙ ap (λ (n : ℕ). receiver_kind ns (drop n ks)) z
     go true false = pass_at Value ns ks at tt
     go false true = pass_at Namespace ns ks at tt
-    go false false = let z : at ≡ at + 0 = omega arith in ap (λ (n : ℕ). receiver ns (drop n ks)) z
+    go false false = let z : at ≡ at + 0 = omega arith in ap (λ (n : ℕ). receiver_kind ns (drop n ks)) z
 
 -- one need, and those below it
-pub picks : (x : Parts) (n : Need) (ns : List Need) (ks : List Kind) (at : ℕ) → picked n (get_or ks at Any) (receiver ns (drop (at + length (unfolded (parts_of x) n)) ks)) ≡ receiver (unfolded (parts_of x) n ++ ns) (drop at ks)
+pub picks : (x : Parts) (n : Need) (ns : List Need) (ks : List Kind) (at : ℕ) → kind_at_need n (get_or ks at Any) (receiver_kind ns (drop (at + length (parts_of_need (parts_of x) n)) ks)) ≡ receiver_kind (parts_of_need (parts_of x) n ++ ns) (drop at ks)
 picks x Value ns ks at = sym (pass_at Value ns ks at tt)
 picks x Namespace ns ks at = sym (pass_at Namespace ns ks at tt)
 picks x Index ns ks at = sym (pass_at Index ns ks at tt)
@@ -197,20 +197,20 @@ picks x Slotted ns ks at = slotted_at ns ks at
 picks x Instance ns ks at = sym (pass_at Instance ns ks at tt)
 picks x Runtime ns ks at = sym (pass_parts x ns ks at)
 
-pub one_receiver : (x : Parts) (a : Need) (ks : List Kind) (at : ℕ) → picked a (get_or ks at Any) Any ≡ receiver (flat_map (unfolded (parts_of x)) (a ∷ [])) (drop at ks)
+pub one_receiver : (x : Parts) (a : Need) (ks : List Kind) (at : ℕ) → kind_at_need a (get_or ks at Any) Any ≡ receiver_kind (flat_map (parts_of_need (parts_of x)) (a ∷ [])) (drop at ks)
 one_receiver x a ks at = picks x a [] ks at
 
-pub two_receiver : (x : Parts) (a b : Need) (ks : List Kind) (at m : ℕ) → m ≡ length (unfolded (parts_of x) a)
-    → picked a (get_or ks at Any) (picked b (get_or ks (at + m) Any) Any) ≡ receiver (flat_map (unfolded (parts_of x)) (a ∷ b ∷ [])) (drop at ks)
+pub two_receiver : (x : Parts) (a b : Need) (ks : List Kind) (at m : ℕ) → m ≡ length (parts_of_need (parts_of x) a)
+    → kind_at_need a (get_or ks at Any) (kind_at_need b (get_or ks (at + m) Any) Any) ≡ receiver_kind (flat_map (parts_of_need (parts_of x)) (a ∷ b ∷ [])) (drop at ks)
 two_receiver x a b ks at m long =
-    ap (picked a (get_or ks at Any)) (one_receiver x b ks (at + m) ∙ ap (λ (n : ℕ). receiver (unfolded (parts_of x) b ++ []) (drop (at + n) ks)) long)
-    ∙ picks x a (unfolded (parts_of x) b ++ []) ks at
+    ap (kind_at_need a (get_or ks at Any)) (one_receiver x b ks (at + m) ∙ ap (λ (n : ℕ). receiver_kind (parts_of_need (parts_of x) b ++ []) (drop (at + n) ks)) long)
+    ∙ picks x a (parts_of_need (parts_of x) b ++ []) ks at
 
-pub three_receiver : (x : Parts) (a b c : Need) (ks : List Kind) (at m n : ℕ) → m ≡ length (unfolded (parts_of x) a) → n ≡ length (unfolded (parts_of x) b)
-    → picked a (get_or ks at Any) (picked b (get_or ks (at + m) Any) (picked c (get_or ks (at + m + n) Any) Any)) ≡ receiver (flat_map (unfolded (parts_of x)) (a ∷ b ∷ c ∷ [])) (drop at ks)
+pub three_receiver : (x : Parts) (a b c : Need) (ks : List Kind) (at m n : ℕ) → m ≡ length (parts_of_need (parts_of x) a) → n ≡ length (parts_of_need (parts_of x) b)
+    → kind_at_need a (get_or ks at Any) (kind_at_need b (get_or ks (at + m) Any) (kind_at_need c (get_or ks (at + m + n) Any) Any)) ≡ receiver_kind (flat_map (parts_of_need (parts_of x)) (a ∷ b ∷ c ∷ [])) (drop at ks)
 three_receiver x a b c ks at m n long more =
-    ap (picked a (get_or ks at Any)) (two_receiver x b c ks (at + m) n more ∙ ap (λ (k : ℕ). receiver (unfolded (parts_of x) b ++ (unfolded (parts_of x) c ++ [])) (drop (at + k) ks)) long)
-    ∙ picks x a (unfolded (parts_of x) b ++ (unfolded (parts_of x) c ++ [])) ks at
+    ap (kind_at_need a (get_or ks at Any)) (two_receiver x b c ks (at + m) n more ∙ ap (λ (k : ℕ). receiver_kind (parts_of_need (parts_of x) b ++ (parts_of_need (parts_of x) c ++ [])) (drop (at + k) ks)) long)
+    ∙ picks x a (parts_of_need (parts_of x) b ++ (parts_of_need (parts_of x) c ++ [])) ks at
 
 -- ---- locals
 

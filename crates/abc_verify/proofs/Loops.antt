@@ -4,7 +4,7 @@ use Rattle.std.specs.Prelude.{filter, not, ltb}
 use Rattle.std.proofs.Math.Seq.{drop-cons}
 use Rattle.std.proofs.lemmas.Bool.{le-ltb, lt-ltb}
 use Rattle.abc_verify_typing.specs.Effects.{covers}
-use Rattle.abc_verify_typing.specs.Rules.{all_below, first_broken, handler_target, is_empty}
+use Rattle.abc_verify_typing.specs.Rules.{all_below, first_broken, handler_target, is_without_catches}
 use Rattle.abc_verify_typing.specs.declared.catch.Catch.{Catch}
 use Rattle.abc_verify_typing.specs.declared.rule.VerifyRule.{VerifyRule}
 
@@ -30,10 +30,10 @@ uncovered i hs k d h e =
     ap (λ (ys : List Catch). filter (covers i) ys) (drop_next hs k d h)
     ∙ sym (ap (λ (b : Bool). cond b (get_or hs k d ∷ filter (covers i) (drop (k + 1) hs)) (filter (covers i) (drop (k + 1) hs))) e)
 
-pub covered : (i : ℕ) (hs : List Catch) (k : ℕ) (d : Catch) → k < length hs → true ≡ covers i (get_or hs k d) → false ≡ is_empty (filter (covers i) (drop k hs))
+pub covered : (i : ℕ) (hs : List Catch) (k : ℕ) (d : Catch) → k < length hs → true ≡ covers i (get_or hs k d) → false ≡ is_without_catches (filter (covers i) (drop k hs))
 covered i hs k d h e =
-    sym (ap (λ (ys : List Catch). is_empty (filter (covers i) ys)) (drop_next hs k d h)
-    ∙ sym (ap (λ (b : Bool). is_empty (cond b (get_or hs k d ∷ filter (covers i) (drop (k + 1) hs)) (filter (covers i) (drop (k + 1) hs)))) e))
+    sym (ap (λ (ys : List Catch). is_without_catches (filter (covers i) ys)) (drop_next hs k d h)
+    ∙ sym (ap (λ (b : Bool). is_without_catches (cond b (get_or hs k d ∷ filter (covers i) (drop (k + 1) hs)) (filter (covers i) (drop (k + 1) hs)))) e))
 
 -- a handler that doesn't cover the place, or whose target is inside, says nothing
 pub inside_next : (i e : ℕ) (hs : List Catch) (k : ℕ) (d : Catch) → k < length hs → true ≡ (not (covers i (get_or hs k d)) || ltb (get_or hs k d).target e)

@@ -20,7 +20,7 @@ use Rattle.abc_verify_typing.specs.Routines.{routine}
 use Rattle.abc_verify_typing.specs.Typing.{HasTyping}
 use Rattle.abc_verify_typing.proofs.Good.{good}
 use Rattle.abc_verify_typing.proofs.Exact.{typed_not_refuted}
-use Rattle.abc_verify.specs.VerifyRefusing.{IsRefusal, refused_of}
+use Rattle.abc_verify.specs.VerifyRefusing.{IsVerifyRefusal, refused_of}
 use Rattle.abc_verify.specs.Typed.{AllTyped, AreTyped, IsTyped, IsVerified}
 use Rattle.abc_verify.specs.declared.verify_error.VerifyError.{VerifyError}
 
@@ -70,10 +70,10 @@ is_typed l m b e h = λ k f. (let q : b ≡ k = cc in subst (λ (i : ℕ). HasTy
 pub not_typed : (l : LinkedFile) (m : ℕ) → body_of l.file m ≡ None → IsTyped l m
 not_typed l m e = λ b f. absurd cc
 
-pub refused : (l : LinkedFile) (m b : ℕ) (e : Refusal) (x : VerifyError) → IsLinkedFile l → m < length l.file.methods → AreTyped l m → body_of l.file m ≡ Some b → RefusedBy l (routine l b) e → x ≡ refused_of m b e → IsRefusal l x
-refused l m b e x t lt before is h q = subst (IsRefusal l) (sym q) (go e h)
+pub refused : (l : LinkedFile) (m b : ℕ) (e : Refusal) (x : VerifyError) → IsLinkedFile l → m < length l.file.methods → AreTyped l m → body_of l.file m ≡ Some b → RefusedBy l (routine l b) e → x ≡ refused_of m b e → IsVerifyRefusal l x
+refused l m b e x t lt before is h q = subst (IsVerifyRefusal l) (sym q) (go e h)
   where
-    go : (e : Refusal) → RefusedBy l (routine l b) e → IsRefusal l (refused_of m b e)
+    go : (e : Refusal) → RefusedBy l (routine l b) e → IsVerifyRefusal l (refused_of m b e)
     go flows.NoMemory h = tt
     go (flows.Refused i r) h = (lt, before, record { of_method = is; refuted = h; untyped = λ y. typed_not_refuted l (routine l b) (good l t) y (i, (r, h)) })
 

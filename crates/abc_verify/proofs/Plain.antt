@@ -10,7 +10,7 @@ use Rattle.abc_verify_typing.specs.declared.row.Need.{Need}
 use Rattle.abc_verify_typing.specs.declared.row.Need.TheVariants.{Value, Namespace}
 use Rattle.abc_verify_states.specs.Needs.{parts_of}
 use Rattle.abc_verify_states.specs.declared.names.Parts.{Parts}
-use Rattle.abc_verify_typing.specs.Effects.{Here, args, name_at, needs, receiver, runtime, unfolded}
+use Rattle.abc_verify_typing.specs.Effects.{Here, args, multiname_at, needs, receiver_kind, runtime, parts_of_need}
 use Rattle.abc_verify_typing.specs.Rules.{all_suit, suits}
 use Rattle.abc_verify_typing.specs.declared.rule.VerifyRule.{VerifyRule}
 use Rattle.abc_verify_typing.specs.declared.rule.VerifyRule.TheVariants.{NotSpace}
@@ -53,8 +53,8 @@ three_plain f a b c p q e v h = on q (AreValues (flat_map f (b ∷ c ∷ []))) (
 
 more : (n : Need) (ns : List Need) → AreClosed (n ∷ []) → AreClosed ns → AreClosed (n ∷ ns)
 more n ns a b ps qs =
-    let one : unfolded ps n ≡ unfolded qs n = sym (append-nil (unfolded ps n)) ∙ a ps qs ∙ append-nil (unfolded qs n) in
-    ap (λ (xs : List Need). xs ++ flat_map (unfolded ps) ns) one ∙ ap (λ (xs : List Need). unfolded qs n ++ xs) (b ps qs)
+    let one : parts_of_need ps n ≡ parts_of_need qs n = sym (append-nil (parts_of_need ps n)) ∙ a ps qs ∙ append-nil (parts_of_need qs n) in
+    ap (λ (xs : List Need). xs ++ flat_map (parts_of_need ps) ns) one ∙ ap (λ (xs : List Need). parts_of_need qs n ++ xs) (b ps qs)
 
 closed : (p : Bool) (P : Type 0) → p ≡ false → OnFalse p P → P
 closed false P e h = h
@@ -67,14 +67,14 @@ more_closed n ns p q e a b = go q b
     go true b = tt
     go false b = more n ns (closed p (AreClosed (n ∷ [])) e a) b
 
-pub closed_parts : (h : Here) (ps : List Need) (p : Bool) → p ≡ false → OnFalse p (AreClosed h.row.takes) → flat_map (unfolded ps) h.row.takes ≡ needs h
-closed_parts h ps p e c = closed p (AreClosed h.row.takes) e c ps (runtime (name_at h.file (operand h.instr)))
+pub closed_parts : (h : Here) (ps : List Need) (p : Bool) → p ≡ false → OnFalse p (AreClosed h.row.takes) → flat_map (parts_of_need ps) h.row.takes ≡ needs h
+closed_parts h ps p e c = closed p (AreClosed h.row.takes) e c ps (runtime (multiname_at h.file (operand h.instr)))
 
-pub named_parts : (h : Here) (ps : List Need) → ps ≡ runtime (name_at h.file (operand h.instr)) → flat_map (unfolded ps) h.row.takes ≡ needs h
-named_parts h ps e = ap (λ (qs : List Need). flat_map (unfolded qs) h.row.takes) e
+pub named_parts : (h : Here) (ps : List Need) → ps ≡ runtime (multiname_at h.file (operand h.instr)) → flat_map (parts_of_need ps) h.row.takes ≡ needs h
+named_parts h ps e = ap (λ (qs : List Need). flat_map (parts_of_need qs) h.row.takes) e
 
-pub asked_is : (h : Here) (a : Asked) (n : ℕ) → flat_map (unfolded (parts_of a.parts)) h.row.takes ≡ needs h → a.args ≡ args h → a.args < 2 ^ 40 → n ≡ length (flat_map (unfolded (parts_of a.parts)) h.row.takes) → a.depth ≡ a.args + n
-    → OnTrue a.is_plain (AreValues (flat_map (unfolded (parts_of a.parts)) h.row.takes)) → IsAsked h a
+pub asked_is : (h : Here) (a : Asked) (n : ℕ) → flat_map (parts_of_need (parts_of a.parts)) h.row.takes ≡ needs h → a.args ≡ args h → a.args < 2 ^ 40 → n ≡ length (flat_map (parts_of_need (parts_of a.parts)) h.row.takes) → a.depth ≡ a.args + n
+    → OnTrue a.is_plain (AreValues (flat_map (parts_of_need (parts_of a.parts)) h.row.takes)) → IsAsked h a
 asked_is h a n p at few e d plain = record {
   parts = p;
   args = at;
@@ -84,17 +84,17 @@ asked_is h a n p at few e d plain = record {
 }
 
 -- values of which nothing is asked stand for themselves
-unfolded_values : (ps ns : List Need) → AreValues ns → flat_map (unfolded ps) ns ≡ ns
+unfolded_values : (ps ns : List Need) → AreValues ns → flat_map (parts_of_need ps) ns ≡ ns
 unfolded_values ps [] v = refl
 unfolded_values ps (n ∷ ns) v =
-    ap (λ (x : Need). unfolded ps x ++ flat_map (unfolded ps) ns) v.0
+    ap (λ (x : Need). parts_of_need ps x ++ flat_map (parts_of_need ps) ns) v.0
     ∙ ap (λ (xs : List Need). Value ∷ xs) (unfolded_values ps ns v.1)
     ∙ ap (λ (x : Need). x ∷ ns) (sym v.0)
 
 pub values_asked : (h : Here) (a : Asked) (n : ℕ) → HasValues h.row.takes n → a.args ≡ args h → a.args < 2 ^ 40 → a.depth ≡ a.args + n → IsAsked h a
 values_asked h a n v at few d =
-    let same : (ps : List Need) → flat_map (unfolded ps) h.row.takes ≡ h.row.takes = λ ps. unfolded_values ps h.row.takes v.values in
-    let mine : needs h ≡ h.row.takes = same (runtime (name_at h.file (operand h.instr))) in
+    let same : (ps : List Need) → flat_map (parts_of_need ps) h.row.takes ≡ h.row.takes = λ ps. unfolded_values ps h.row.takes v.values in
+    let mine : needs h ≡ h.row.takes = same (runtime (multiname_at h.file (operand h.instr))) in
     record {
       parts = same (parts_of a.parts) ∙ sym mine;
       args = at;
@@ -118,10 +118,10 @@ all_plain h r (n ∷ ns) (k ∷ ks) v = ap (λ (x : Need). suits h r x k && all_
     any NotSpace = refl
     any r = refl
 
-none_slotted : (ns : List Need) (ks : List Kind) → AreValues ns → receiver ns ks ≡ Any
+none_slotted : (ns : List Need) (ks : List Kind) → AreValues ns → receiver_kind ns ks ≡ Any
 none_slotted [] ks v = refl
-none_slotted (n ∷ ns) [] v = ap (λ (x : Need). receiver (x ∷ ns) []) v.0
-none_slotted (n ∷ ns) (k ∷ ks) v = ap (λ (x : Need). receiver (x ∷ ns) (k ∷ ks)) v.0 ∙ none_slotted ns ks v.1
+none_slotted (n ∷ ns) [] v = ap (λ (x : Need). receiver_kind (x ∷ ns) []) v.0
+none_slotted (n ∷ ns) (k ∷ ks) v = ap (λ (x : Need). receiver_kind (x ∷ ns) (k ∷ ks)) v.0 ∙ none_slotted ns ks v.1
 
 values : (h : Here) (a : Asked) → IsAsked h a → a.is_plain ≡ true → AreValues (needs h)
 values h a is on = subst (λ (b : Bool). OnTrue b (AreValues (needs h))) on is.plain
@@ -129,17 +129,17 @@ values h a is on = subst (λ (b : Bool). OnTrue b (AreValues (needs h))) on is.p
 pub plain_suits : (h : Here) (a : Asked) (r : VerifyRule) (ks : List Kind) → IsAsked h a → a.is_plain ≡ true → true ≡ all_suit h r (needs h) ks
 plain_suits h a r ks is on = sym (all_plain h r (needs h) ks (values h a is on))
 
-pub asked_suits : (h : Here) (a : Asked) (r : VerifyRule) (ks : List Kind) (b : Bool) → IsAsked h a → b ≡ all_suit h r (flat_map (unfolded (parts_of a.parts)) h.row.takes) (drop a.args ks) → b ≡ all_suit h r (needs h) (drop (args h) ks)
+pub asked_suits : (h : Here) (a : Asked) (r : VerifyRule) (ks : List Kind) (b : Bool) → IsAsked h a → b ≡ all_suit h r (flat_map (parts_of_need (parts_of a.parts)) h.row.takes) (drop a.args ks) → b ≡ all_suit h r (needs h) (drop (args h) ks)
 asked_suits h a r ks b is e =
     e
     ∙ ap (λ (qs : List Need). all_suit h r qs (drop a.args ks)) is.parts
     ∙ ap (λ (k : ℕ). all_suit h r (needs h) (drop k ks)) is.args
 
-pub plain_receiver : (h : Here) (a : Asked) (ks : List Kind) → IsAsked h a → a.is_plain ≡ true → Any ≡ receiver (needs h) ks
+pub plain_receiver : (h : Here) (a : Asked) (ks : List Kind) → IsAsked h a → a.is_plain ≡ true → Any ≡ receiver_kind (needs h) ks
 plain_receiver h a ks is on = sym (none_slotted (needs h) ks (values h a is on))
 
-pub asked_receiver : (h : Here) (a : Asked) (ks : List Kind) (x : Kind) → IsAsked h a → x ≡ receiver (flat_map (unfolded (parts_of a.parts)) h.row.takes) (drop a.args ks) → x ≡ receiver (needs h) (drop (args h) ks)
+pub asked_receiver : (h : Here) (a : Asked) (ks : List Kind) (x : Kind) → IsAsked h a → x ≡ receiver_kind (flat_map (parts_of_need (parts_of a.parts)) h.row.takes) (drop a.args ks) → x ≡ receiver_kind (needs h) (drop (args h) ks)
 asked_receiver h a ks x is e =
     e
-    ∙ ap (λ (qs : List Need). receiver qs (drop a.args ks)) is.parts
-    ∙ ap (λ (k : ℕ). receiver (needs h) (drop k ks)) is.args
+    ∙ ap (λ (qs : List Need). receiver_kind qs (drop a.args ks)) is.parts
+    ∙ ap (λ (k : ℕ). receiver_kind (needs h) (drop k ks)) is.args

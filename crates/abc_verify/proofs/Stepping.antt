@@ -1,14 +1,14 @@
 -- What a step leads to.
 use Rattle.std.proofs.Common.{◌≡◌, ◌≢◌, ℕ, suc, ◌+◌, List, [], ◌∷◌, ◌++◌, Some, None, cond, drop, get_or, map, refl, sym, ap, ◌∙◌, subst, arith, eq-eqb}
 use Rattle.std.specs.Prelude.{Bool, true, false, not, ◌&&◌, ltb, eqb, slice_get}
-use Rattle.abc_verify_flow.specs.Walking.{IsTriedAt, Steps, Wrote, landing, targets_at, targets_in}
+use Rattle.abc_verify_flow.specs.Walking.{IsTriedAt, Steps, Wrote, landing, targets_at, targets_of_instr}
 use Rattle.abc_verify_flow.specs.declared.step.Step.{Step}
 use Rattle.abc_verify_flow.specs.declared.step.Trial.{Trial}
 use Rattle.abc_verify_flow.specs.declared.step.Trial.TheVariants.{Breaks, Steps as Does}
 use Rattle.abc_link_names.specs.Linked.{LinkedFile}
 use Rattle.abc_link_names.specs.declared.types.Kind.{Kind}
 use Rattle.abc_link_names.specs.declared.types.Kind.TheVariants as kinds
-use Rattle.abc_verify_typing.specs.Instructions.{local, opcode, second, targets}
+use Rattle.abc_verify_typing.specs.Instructions.{local, opcode, second_local, targets}
 use Rattle.abc_verify_typing.specs.Rows.{Shape, row_at}
 use Rattle.abc_verify_typing.specs.declared.row.RowKind.TheVariants as rows
 use Rattle.abc_verify_typing.specs.declared.row.Leads.{Leads}
@@ -16,7 +16,7 @@ use Rattle.abc_verify_typing.specs.declared.row.Leads.TheVariants.{Next, Branche
 use Rattle.abc_verify_typing.specs.declared.row.Locals.{Locals}
 use Rattle.abc_verify_typing.specs.declared.row.Locals.TheVariants.{Untouched, Reads, Sets, Walks}
 use Rattle.abc_file_types.specs.declared.code.Instr.{Instr}
-use Rattle.abc_verify_typing.specs.Effects.{Here, after, args, depth, fixed, goes_on, kind_at, kind_of, leads, locals_after, needs, next, scope_kind, scopes_after, taken}
+use Rattle.abc_verify_typing.specs.Effects.{Here, states_after, args, depth, kind_of_row, goes_on_after, kind_at, kind_of_source, leads, locals_after, needs, state_behind, scope_kind, scopes_after, stack_below}
 use Rattle.abc_verify_typing.specs.Routines.{Routine}
 use Rattle.abc_verify_typing.specs.Rules.{after_instr, after_row, at_instr, at_row, broken, early_rules, first_broken, has_locals, keeps, late_rules}
 use Rattle.abc_verify_typing.specs.Typing.{IsFine}
@@ -25,7 +25,7 @@ use Rattle.abc_verify_typing.specs.declared.state.State.{State}
 use Rattle.abc_verify_typing.proofs.Fine.{stands}
 use Rattle.abc_verify_typing.specs.declared.row.Scoping.{Scoping}
 use Rattle.abc_verify_typing.specs.declared.row.Scoping.TheVariants.{Stays, Pushes, Pops}
-use Rattle.abc_verify.specs.Visits.{IsTried, given_kinds, leads_away, leads_on, scoped, step_by, written_by}
+use Rattle.abc_verify.specs.Visits.{IsTried, given_kinds, leads_away, leads_on, scopes_after_row, step_by, written_by}
 use Rattle.abc_verify.specs.declared.changes.Given.{Given}
 use Rattle.abc_verify.proofs.Asking.{taken_at}
 
@@ -45,8 +45,8 @@ apart_by x y count e = λ q.
 wrote : (h : Here) (s : State) (l : Locals) (count : ℕ) → has_locals l h.instr count ≡ true → Wrote (written_by h.instr l) s.locals (locals_after h s l)
 wrote h s Untouched count e = refl
 wrote h s Reads count e = refl
-wrote h s (Sets source) count e = record { kind = kind_of h s source; is = refl }
-wrote h s Walks count e = record { apart = apart_by (local h.instr) (second h.instr) count e; first = fixed h.file rows.Object; second = kinds.Num; is = refl }
+wrote h s (Sets source) count e = record { kind = kind_of_source h s source; is = refl }
+wrote h s Walks count e = record { apart = apart_by (local h.instr) (second_local h.instr) count e; first = kind_of_row h.file rows.Object; second = kinds.Num; is = refl }
 
 -- the locals that a step keeps by its rules
 kept_locals : (h : Here) (s : State) → IsFine h.file h.method h.place s → slice_get h.method.code h.place ≡ Some h.instr → row_at (opcode h.instr) ≡ Some h.row → has_locals h.row.locals h.instr h.method.local_count ≡ true
@@ -69,20 +69,20 @@ leading h Switches ts e = sym e
 leading h Ends ts e = refl
 
 led : (h : Here) (s : State) (goes : Bool) (l : Leads) (ts : List ℕ) → ts ≡ targets h.instr
-    → cond goes (map (λ t. (t, next h s)) (leads h l)) [] ≡ map (landing (next h s)) (cond (goes && leads_on l) (suc h.place ∷ []) [] ++ cond (goes && leads_away l) ts [])
-led h s true l ts e = ap (map (landing (next h s))) (leading h l ts e)
+    → cond goes (map (λ t. (t, state_behind h s)) (leads h l)) [] ≡ map (landing (state_behind h s)) (cond (goes && leads_on l) (suc h.place ∷ []) [] ++ cond (goes && leads_away l) ts [])
+led h s true l ts e = ap (map (landing (state_behind h s))) (leading h l ts e)
 led h s false l ts e = refl
 
-after_is : (h : Here) (s : State) → slice_get h.method.code h.place ≡ Some h.instr → row_at (opcode h.instr) ≡ Some h.row → after_instr h.file h.method h.place s (slice_get h.method.code h.place) ≡ after h s
+after_is : (h : Here) (s : State) → slice_get h.method.code h.place ≡ Some h.instr → row_at (opcode h.instr) ≡ Some h.row → after_instr h.file h.method h.place s (slice_get h.method.code h.place) ≡ states_after h s
 after_is h s e f = ap (after_instr h.file h.method h.place s) e ∙ ap (after_row h.file h.method h.place h.instr s) f
 
 stepped : (h : Here) (s n : State) (w : Step) → IsFine h.file h.method h.place s → slice_get h.method.code h.place ≡ Some h.instr → row_at (opcode h.instr) ≡ Some h.row
-    → n ≡ next h s → w ≡ step_by (goes_on (needs h) (taken h s)) h.row.leads (written_by h.instr h.row.locals) → Steps h.file h.method h.place s n w
+    → n ≡ state_behind h s → w ≡ step_by (goes_on_after (needs h) (stack_below h s)) h.row.leads (written_by h.instr h.row.locals) → Steps h.file h.method h.place s n w
 stepped h s n w fine e f is leads_is =
-    let goes = goes_on (needs h) (taken h s) in
+    let goes = goes_on_after (needs h) (stack_below h s) in
     let by = step_by goes h.row.leads (written_by h.instr h.row.locals) in
-    let named : targets_at h.method h.place ≡ targets h.instr = ap targets_in e in
-    let whole : Steps h.file h.method h.place s (next h s) by = record {
+    let named : targets_at h.method h.place ≡ targets h.instr = ap targets_of_instr e in
+    let whole : Steps h.file h.method h.place s (state_behind h s) by = record {
       after = after_is h s e f ∙ led h s goes h.row.leads (targets_at h.method h.place) named;
       locals = wrote h s h.row.locals h.method.local_count (kept_locals h s fine e f);
     } in
@@ -90,24 +90,24 @@ stepped h s n w fine e f is leads_is =
 
 -- ---- the state
 
-scopes_are : (h : Here) (s : State) (o : Scoping) → scoped o (scope_kind h.file (kind_at (taken h s) 0)) s.scopes ≡ scopes_after h s o
+scopes_are : (h : Here) (s : State) (o : Scoping) → scopes_after_row o (scope_kind h.file (kind_at (stack_below h s) 0)) s.scopes ≡ scopes_after h s o
 scopes_are h s Stays = refl
 scopes_are h s (Pushes is_with) = refl
 scopes_are h s Pops = refl
 
 -- the value below the arguments
-below_args : (h : Here) (s : State) (a : ℕ) → a ≡ args h → get_or s.stack a kinds.Any ≡ kind_at (taken h s) 0
+below_args : (h : Here) (s : State) (a : ℕ) → a ≡ args h → get_or s.stack a kinds.Any ≡ kind_at (stack_below h s) 0
 below_args h s a e = let z : a ≡ args h + 0 = omega (arith, e) in ap (λ (n : ℕ). get_or s.stack n kinds.Any) z ∙ taken_at s.stack (args h) 0
 
-pub next_is : (h : Here) (s t n : State) (g : Given) (d a : ℕ) → given_kinds g ≡ map (kind_of h s) h.row.gives → d ≡ depth h → a ≡ args h → t ≡ record { stack = s.stack; scopes = s.scopes; locals = locals_after h s h.row.locals }
-    → n.stack ≡ given_kinds g ++ drop d t.stack → n.scopes ≡ scoped h.row.scoping (scope_kind h.file (get_or t.stack a kinds.Any)) t.scopes → n.locals ≡ t.locals → n ≡ next h s
+pub next_is : (h : Here) (s t n : State) (g : Given) (d a : ℕ) → given_kinds g ≡ map (kind_of_source h s) h.row.gives → d ≡ depth h → a ≡ args h → t ≡ record { stack = s.stack; scopes = s.scopes; locals = locals_after h s h.row.locals }
+    → n.stack ≡ given_kinds g ++ drop d t.stack → n.scopes ≡ scopes_after_row h.row.scoping (scope_kind h.file (get_or t.stack a kinds.Any)) t.scopes → n.locals ≡ t.locals → n ≡ state_behind h s
 next_is h s t n g d a gives deep at is x y z =
-    let stack : n.stack ≡ map (kind_of h s) h.row.gives ++ drop (depth h) s.stack =
-    x ∙ ap (λ (u : State). given_kinds g ++ drop d u.stack) is ∙ ap (λ (ks : List Kind). ks ++ drop d s.stack) gives ∙ ap (λ (m : ℕ). map (kind_of h s) h.row.gives ++ drop m s.stack) deep in
+    let stack : n.stack ≡ map (kind_of_source h s) h.row.gives ++ drop (depth h) s.stack =
+    x ∙ ap (λ (u : State). given_kinds g ++ drop d u.stack) is ∙ ap (λ (ks : List Kind). ks ++ drop d s.stack) gives ∙ ap (λ (m : ℕ). map (kind_of_source h s) h.row.gives ++ drop m s.stack) deep in
     let scopes : n.scopes ≡ scopes_after h s h.row.scoping =
     y
-    ∙ ap (λ (u : State). scoped h.row.scoping (scope_kind h.file (get_or u.stack a kinds.Any)) u.scopes) is
-    ∙ ap (λ (k : Kind). scoped h.row.scoping (scope_kind h.file k) s.scopes) (below_args h s a at)
+    ∙ ap (λ (u : State). scopes_after_row h.row.scoping (scope_kind h.file (get_or u.stack a kinds.Any)) u.scopes) is
+    ∙ ap (λ (k : Kind). scopes_after_row h.row.scoping (scope_kind h.file k) s.scopes) (below_args h s a at)
     ∙ scopes_are h s h.row.scoping in
     let locals : n.locals ≡ locals_after h s h.row.locals = z ∙ ap (λ (u : State). u.locals) is in
     λ i. record { stack = stack i; scopes = scopes i; locals = locals i }

@@ -4,7 +4,7 @@ use Rattle.std.specs.Bool.{OnTrue}
 use Rattle.abc_verify_typing.specs.declared.row.Need.{Need}
 use Rattle.abc_verify_typing.specs.declared.row.Need.TheVariants.{Value}
 use Rattle.abc_verify_states.specs.Needs.{parts_of}
-use Rattle.abc_verify_typing.specs.Effects.{Here, args, depth, needs, unfolded}
+use Rattle.abc_verify_typing.specs.Effects.{Here, args, depth, needs, parts_of_need}
 use Rattle.abc_verify_typing.specs.Rules.{keeps}
 use Rattle.abc_verify_typing.specs.Typing.{In}
 use Rattle.abc_verify_typing.specs.declared.rule.VerifyRule.{VerifyRule}
@@ -24,15 +24,15 @@ pub record HasValues (ns : List Need) (count : ℕ) : Type 0 where
 
 -- the parts of a name make no difference
 abbrev pub AreClosed : List Need → Type 0
-AreClosed ns = (ps qs : List Need) → flat_map (unfolded ps) ns ≡ flat_map (unfolded qs) ns
+AreClosed ns = (ps qs : List Need) → flat_map (parts_of_need ps) ns ≡ flat_map (parts_of_need qs) ns
 
 pub record IsAsked (h : Here) (a : Asked) : Type 0 where
-  pub parts : flat_map (unfolded (parts_of a.parts)) h.row.takes ≡ needs h
+  pub parts : flat_map (parts_of_need (parts_of a.parts)) h.row.takes ≡ needs h
   pub args : a.args ≡ args h
   pub few : a.args < 2 ^ 40
   pub depth : a.depth ≡ depth h
   pub plain : OnTrue a.is_plain (AreValues (needs h))
 
 -- a state keeps each of some rules
-pub record AreKept (h : Here) (s : State) (rules : List VerifyRule) : Type 0 where
+pub record AreRulesKept (h : Here) (s : State) (rules : List VerifyRule) : Type 0 where
   pub kept : (r : VerifyRule) → In r rules → keeps h s r ≡ true

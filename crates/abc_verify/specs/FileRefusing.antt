@@ -7,7 +7,7 @@ use Rattle.abc_link_names.specs.declared.error.LinkError.{LinkError}
 use Rattle.abc_link_names.specs.declared.error.LinkError.TheVariants as refusals
 use Rattle.abc_link_names.specs.declared.items.Item.{Item}
 use Rattle.abc_link_names.specs.declared.items.LinkRule.{LinkRule}
-use Rattle.abc_link_layouts.specs.Numbering.{IsNumbered}
+use Rattle.abc_link_layouts.specs.Numbering.{HasLayoutNumbers}
 use Rattle.abc_link_names.specs.Linked.{IsLinkedFile, LinkedFile}
 use Rattle.abc_file_types.specs.declared.tables.Abc.{Abc}
 use Rattle.abc_file_types.specs.Files.{IsBadFile, IsFileRead}
@@ -28,12 +28,12 @@ offset_in starts body index = get_or (get_or starts body []) index 0
 -- method without a typing, by a place and a rule that refute each
 pub data IsUnverified (v : Abc) (starts : List (List ℕ)) : VerifiedError → Type 0 where
   unlinked : (rule : LinkRule) (i : Item) → IsFirstBroken v rule i → IsUnverified v starts (errors.Link rule i)
-  untyped : (l : LinkedFile) (m b i : ℕ) (rule : VerifyRule) → l.file ≡ v → IsLinkedFile l → IsNumbered l → IsFirstUntyped l m b i rule → IsUnverified v starts (errors.Verify m (offset_in starts b i) rule)
+  untyped : (l : LinkedFile) (m b i : ℕ) (rule : VerifyRule) → l.file ≡ v → IsLinkedFile l → HasLayoutNumbers l → IsFirstUntyped l m b i rule → IsUnverified v starts (errors.Verify m (offset_in starts b i) rule)
 
 -- why an input is no verified file: its first fault, or else why its file isn't verified
-pub data IsRefused (input : List ℕ) : VerifiedError → Type 0 where
-  bad : (place : ℕ) (reason : Reason) → IsBadFile input (refusal place reason) → IsRefused input (errors.Refused place reason)
-  unverified : (v : Abc) (starts : List (List ℕ)) (e : VerifiedError) → IsFileRead (v, starts) input → IsUnverified v starts e → IsRefused input e
+pub data IsFileRefused (input : List ℕ) : VerifiedError → Type 0 where
+  bad : (place : ℕ) (reason : Reason) → IsBadFile input (refusal place reason) → IsFileRefused input (errors.Refused place reason)
+  unverified : (v : Abc) (starts : List (List ℕ)) (e : VerifiedError) → IsFileRead (v, starts) input → IsUnverified v starts e → IsFileRefused input e
 
 -- ---- answers, where want of memory is free, and a failed read has another cause
 
@@ -43,10 +43,10 @@ IsUnverifiedBy v starts errors.NoMemory = Unit {0}
 IsUnverifiedBy v starts e = IsUnverified v starts e
 
 -- the error says why the input is no verified file, or is want of memory or a failed read
-abbrev pub IsRefusedBy : List ℕ → VerifiedError → Type 0
-IsRefusedBy input errors.NoMemory = Unit {0}
-IsRefusedBy input errors.ReadFault = Unit {0}
-IsRefusedBy input e = IsRefused input e
+abbrev pub IsFileRefusedBy : List ℕ → VerifiedError → Type 0
+IsFileRefusedBy input errors.NoMemory = Unit {0}
+IsFileRefusedBy input errors.ReadFault = Unit {0}
+IsFileRefusedBy input e = IsFileRefused input e
 
 -- ---- which error stands for which
 
@@ -65,6 +65,6 @@ error_of_verify starts (verifying.Refused m b i rule) = errors.Verify m (offset_
 error_of_verify starts verifying.NoMemory = errors.NoMemory
 
 -- the place of a refusal is one of an instruction, or the end of the code
-abbrev pub IsPlaced : List (List ℕ) → VerifyError → Type 0
-IsPlaced starts (verifying.Refused m b i rule) = (b < length starts) × (i < length (get_or starts b []))
-IsPlaced starts verifying.NoMemory = Unit {0}
+abbrev pub IsRefusalPlaced : List (List ℕ) → VerifyError → Type 0
+IsRefusalPlaced starts (verifying.Refused m b i rule) = (b < length starts) × (i < length (get_or starts b []))
+IsRefusalPlaced starts verifying.NoMemory = Unit {0}

@@ -23,9 +23,9 @@ IsFirstUntyped l m b i r = (m < length l.file.methods) × AreTyped l m × IsUnty
 
 -- a refusal names the first method whose body has no typing, with a place and a rule that refute each; want of
 -- memory is free
-abbrev pub IsRefusal : LinkedFile → VerifyError → Type 0
-IsRefusal l NoMemory = Unit {0}
-IsRefusal l (Refused m b i r) = IsFirstUntyped l m b i r
+abbrev pub IsVerifyRefusal : LinkedFile → VerifyError → Type 0
+IsVerifyRefusal l NoMemory = Unit {0}
+IsVerifyRefusal l (Refused m b i r) = IsFirstUntyped l m b i r
 
 -- the refusal of a method with this body
 abbrev pub refused_of : ℕ → ℕ → Refusal → VerifyError

@@ -1,7 +1,7 @@
 ghost use Rattle.std.specs.Prelude.{◌≡◌, ◌++◌, OnOk, drop, get_or, set};
 ghost use Rattle.abc_link_names.specs.declared.types.Kind.TheVariants as kinds;
 ghost use Rattle.abc_verify_typing.specs.Effects.{scope_kind};
-ghost use Rattle.abc_verify.specs.Visits.{given_kinds, scoped};
+ghost use Rattle.abc_verify.specs.Visits.{given_kinds, scopes_after_row};
 
 use abc_base::{NoMemory, Table};
 use abc_link::Linked;
@@ -61,7 +61,9 @@ pub(crate) fn change_scopes(
     stack: &Stack<Kind>,
     depth: usize,
 ) -> Result<(), NoMemory>
-    ensures { OnOk result (scopes.new ≡ scoped scoping (scope_kind linked.now (get_or stack.now depth kinds.Any)) scopes.old) }
+    ensures { OnOk result (scopes.new
+        ≡ scopes_after_row scoping (scope_kind linked.now (get_or stack.now depth kinds.Any))
+        scopes.old) }
 {
     match scoping {
         Scoping::Stays => Ok(()),

@@ -1,11 +1,11 @@
 ghost use Rattle.std.specs.Prelude.{◌≡◌, ◌<◌, ◌^◌, Some, MatchResult, length};
-ghost use Rattle.abc_verify_states.specs.Frames.{routine_in};
+ghost use Rattle.abc_verify_states.specs.Frames.{routine_of_frame};
 ghost use Rattle.abc_link_names.specs.Linked.{IsLinkedFile};
 ghost use Rattle.abc_link_names.specs.Owners.{body_of as body_of_method};
 ghost use Rattle.abc_verify_typing.specs.Routines.{routine};
 ghost use Rattle.abc_verify_typing.specs.Typing.{HasTyping};
 ghost use Rattle.abc_verify_flow.specs.Walking.{RefusedBy};
-ghost use Rattle.abc_verify.specs.VerifyRefusing.{IsRefusal, refused_of};
+ghost use Rattle.abc_verify.specs.VerifyRefusing.{IsVerifyRefusal, refused_of};
 ghost use Rattle.abc_verify.specs.Typed.{AllTyped, AreTyped, IsTyped, IsVerified};
 
 use crate::checked::Verified;
@@ -26,7 +26,8 @@ fn check_frame(
 ) -> Result<(), Refusal>
     requires linked { IsLinkedFile linked.now }
     requires short { length frame.now.code.now < 2 ^ 31 }
-    ensures { MatchResult result (λ _. HasTyping linked.now (routine_in frame.now)) (λ e. RefusedBy linked.now (routine_in frame.now) e) }
+    ensures { MatchResult result (λ _. HasTyping linked.now (routine_of_frame frame.now))
+        (λ e. RefusedBy linked.now (routine_of_frame frame.now) e) }
 {
     let code = frame.code.as_slice();
     let handlers = frame.handlers.as_slice();
@@ -45,7 +46,8 @@ fn check_frame(
 fn check_body(alloc: Global, linked: &Linked, memory: &mut Memory, body: u32) -> Result<(), Refusal>
     requires linked { IsLinkedFile linked.now }
     requires inside { body < length linked.now.file.bodies }
-    ensures { MatchResult result (λ _. HasTyping linked.now (routine linked.now body)) (λ e. RefusedBy linked.now (routine linked.now body) e) }
+    ensures { MatchResult result (λ _. HasTyping linked.now (routine linked.now body))
+        (λ e. RefusedBy linked.now (routine linked.now body) e) }
 {
     let frame = frame_of(alloc, linked, body)?;
     check_frame(alloc, linked, memory, &frame)
@@ -78,7 +80,7 @@ fn check_numbered(
     requires inside { method < length linked.now.file.methods }
     requires before { AreTyped linked.now method }
     requires of_method { body_of_method linked.now.file method ≡ Some body }
-    ensures { MatchResult result (λ _. IsTyped linked.now method) (IsRefusal linked.now) }
+    ensures { MatchResult result (λ _. IsTyped linked.now method) (IsVerifyRefusal linked.now) }
 {
     match check_body(alloc, linked, memory, body) {
         Ok(()) => Ok(()),
@@ -96,7 +98,7 @@ fn check_method(
     requires linked { IsLinkedFile linked.now }
     requires inside { method < length linked.now.file.methods }
     requires before { AreTyped linked.now method }
-    ensures { MatchResult result (λ _. IsTyped linked.now method) (IsRefusal linked.now) }
+    ensures { MatchResult result (λ _. IsTyped linked.now method) (IsVerifyRefusal linked.now) }
 {
     match linked.body_of(method) {
         Some(body) => check_numbered(alloc, linked, memory, method, body),
@@ -113,7 +115,7 @@ fn check_methods(
 ) -> Result<(), VerifyError>
     requires linked { IsLinkedFile linked.now }
     requires all { count ≡ length linked.now.file.methods }
-    ensures { MatchResult result (λ _. IsVerified linked.now) (IsRefusal linked.now) }
+    ensures { MatchResult result (λ _. IsVerified linked.now) (IsVerifyRefusal linked.now) }
 {
     for method in 0..count {
         check_method(alloc, linked, memory, method)?;
@@ -125,7 +127,7 @@ fn check_methods(
 fn check_file(alloc: Global, linked: &Linked, count: u32) -> Result<(), VerifyError>
     requires linked { IsLinkedFile linked.now }
     requires all { count ≡ length linked.now.file.methods }
-    ensures { MatchResult result (λ _. IsVerified linked.now) (IsRefusal linked.now) }
+    ensures { MatchResult result (λ _. IsVerified linked.now) (IsVerifyRefusal linked.now) }
 {
     let mut memory = Memory::new(alloc);
     let checked = check_methods(alloc, linked, &mut memory, count);
@@ -145,7 +147,8 @@ fn method_count(linked: &Linked) -> u32
 /// [`VerifyError::Refused`] exactly where a method's body has no typing, with the first such method, and
 /// [`VerifyError::NoMemory`] where memory runs out.
 pub fn verify(alloc: Global, linked: Linked) -> Result<Verified, VerifyError>
-    ensures { MatchResult result (λ v. (v ≡ linked) × IsVerified linked × AllTyped linked) (IsRefusal linked) }
+    ensures { MatchResult result (λ v. (v ≡ linked) × IsVerified linked × AllTyped linked)
+        (IsVerifyRefusal linked) }
 {
     linked.linked_law();
     let count = method_count(&linked);

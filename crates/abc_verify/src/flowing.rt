@@ -20,11 +20,11 @@ pub(crate) struct Flowing<'a> {
 }
 
 impl Flow for Flowing<'_> {
-    ghost use Rattle.abc_verify_states.specs.Frames.{routine_in};
+    ghost use Rattle.abc_verify_states.specs.Frames.{routine_of_frame};
 
     ghost file = { λ f. f.linked.now };
 
-    ghost routine = { λ f. routine_in f.frame.now };
+    ghost routine = { λ f. routine_of_frame f.frame.now };
 
     ghost heads = { λ f. f.heads.now };
 

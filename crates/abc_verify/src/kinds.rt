@@ -1,9 +1,9 @@
 ghost use Rattle.std.specs.Prelude.{◌≡◌, ◌<◌, ◌^◌, drop, flat_map, slice_get};
 ghost use Rattle.abc_verify_typing.specs.Table.{needs};
 ghost use Rattle.abc_verify_states.specs.Needs.{parts_of};
-ghost use Rattle.abc_verify_typing.specs.Effects.{catch_object, kind_at as kind_in, kind_of as kind_of_source, needs as needs_of, receiver as receiver_of, scope_of, taken, unfolded};
+ghost use Rattle.abc_verify_typing.specs.Effects.{catch_object, kind_at as kind_in, kind_of_source, needs as needs_of, receiver_kind as receiver_of, scope_of, stack_below, parts_of_need};
 ghost use Rattle.abc_verify.specs.Asking.{IsAsked};
-ghost use Rattle.abc_verify.specs.Visits.{here_in, picked as picked_by};
+ghost use Rattle.abc_verify.specs.Visits.{here_in, kind_at_need as picked_by};
 
 use crate::visit::{Asked, Visit, need_count};
 use abc_base::Table;
@@ -56,7 +56,8 @@ fn picked(need: Need, here: Kind, below: Kind) -> Kind
 #[tactic(auto, using(crate::proofs::Asking::one_receiver, crate::proofs::Asking::two_receiver, crate::proofs::Asking::three_receiver))]
 fn receiver_at(takes: Takes, parts: Parts, stack: &Stack<Kind>, at: usize) -> Kind
     requires { at < 2 ^ 40 }
-    ensures { result ≡ receiver_of (flat_map (unfolded (parts_of parts)) (needs takes)) (drop at stack.now) }
+    ensures { result
+        ≡ receiver_of (flat_map (parts_of_need (parts_of parts)) (needs takes)) (drop at stack.now) }
 {
     match takes {
         Takes::Nothing => Kind::Any,
@@ -82,7 +83,7 @@ impl Visit<'_> {
     #[tactic(auto, using(crate::proofs::Asking::taken_at))]
     pub(crate) fn taken(&self, asked: &Asked, state: &State, depth: u8) -> Kind
         requires { IsAsked (here_in self.now) asked.now }
-        ensures { result ≡ kind_in (taken (here_in self.now) state.now) depth }
+        ensures { result ≡ kind_in (stack_below (here_in self.now) state.now) depth }
     {
         state.stack.get_or(asked.args + depth as usize, Kind::Any)
     }
@@ -92,7 +93,8 @@ impl Visit<'_> {
     #[tactic(auto, using(crate::proofs::Plain::plain_receiver, crate::proofs::Plain::asked_receiver))]
     pub(crate) fn receiver(&self, asked: &Asked, state: &State) -> Kind
         requires { IsAsked (here_in self.now) asked.now }
-        ensures { result ≡ receiver_of (needs_of (here_in self.now)) (taken (here_in self.now) state.now) }
+        ensures { result
+            ≡ receiver_of (needs_of (here_in self.now)) (stack_below (here_in self.now) state.now) }
     {
         if asked.is_plain {
             return Kind::Any;

@@ -1,6 +1,6 @@
 ghost use Rattle.std.specs.Prelude.{◌≡◌, ◌∷◌, [], ◌<◌, ◌^◌, drop, flat_map};
 ghost use Rattle.abc_verify_typing.specs.Table.{needs};
-ghost use Rattle.abc_verify_typing.specs.Effects.{needs as needs_of, taken, unfolded};
+ghost use Rattle.abc_verify_typing.specs.Effects.{needs as needs_of, stack_below, parts_of_need};
 ghost use Rattle.abc_verify_typing.specs.Rules.{all_suit, suits};
 ghost use Rattle.abc_verify_states.specs.Needs.{parts_of};
 ghost use Rattle.abc_verify.specs.Asking.{IsAsked};
@@ -73,7 +73,8 @@ impl Visit<'_> {
         at: usize,
     ) -> bool
         requires { at < 2 ^ 48 }
-        ensures { result ≡ all_suit (here_in self.now) rule (unfolded (parts_of parts) need) (drop at stack.now) }
+        ensures { result
+            ≡ all_suit (here_in self.now) rule (parts_of_need (parts_of parts) need) (drop at stack.now) }
     {
         match need {
             Need::Runtime => self.parts_suit(rule, parts, stack, at),
@@ -96,7 +97,9 @@ impl Visit<'_> {
         at: usize,
     ) -> bool
         requires { at < 2 ^ 44 }
-        ensures { result ≡ all_suit (here_in self.now) rule (flat_map (unfolded (parts_of parts)) (a ∷ b ∷ [])) (drop at stack.now) }
+        ensures { result
+            ≡ all_suit (here_in self.now) rule (flat_map (parts_of_need (parts_of parts)) (a ∷ b ∷ []))
+            (drop at stack.now) }
     {
         let next = at + need_count(a, parts);
         self.need_suits(rule, a, parts, stack, at) && self.need_suits(rule, b, parts, stack, next)
@@ -114,7 +117,9 @@ impl Visit<'_> {
         at: usize,
     ) -> bool
         requires { at < 2 ^ 40 }
-        ensures { result ≡ all_suit (here_in self.now) rule (flat_map (unfolded (parts_of parts)) (needs takes)) (drop at stack.now) }
+        ensures { result
+            ≡ all_suit (here_in self.now) rule (flat_map (parts_of_need (parts_of parts)) (needs takes))
+            (drop at stack.now) }
     {
         match takes {
             Takes::Nothing => true,
@@ -133,7 +138,9 @@ impl Visit<'_> {
     #[tactic(auto, using(crate::proofs::Plain::plain_suits, crate::proofs::Plain::asked_suits))]
     pub(crate) fn all_suit(&self, asked: &Asked, rule: VerifyRule, state: &State) -> bool
         requires { IsAsked (here_in self.now) asked.now }
-        ensures { result ≡ all_suit (here_in self.now) rule (needs_of (here_in self.now)) (taken (here_in self.now) state.now) }
+        ensures { result
+            ≡ all_suit (here_in self.now) rule (needs_of (here_in self.now))
+            (stack_below (here_in self.now) state.now) }
     {
         if asked.is_plain {
             return true;

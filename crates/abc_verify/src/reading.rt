@@ -3,10 +3,10 @@ ghost use Rattle.abc_base.specs.Faults.{Rose};
 ghost use Rattle.abc_base.specs.Taking.{TakesAtMost};
 ghost use Rattle.abc_bodies.specs.Places.{ArePlaces};
 ghost use Rattle.abc_file.specs.Reading.{IsUsedUp, OfInput};
-ghost use Rattle.abc_link_layouts.specs.Numbering.{IsNumbered};
+ghost use Rattle.abc_link_layouts.specs.Numbering.{HasLayoutNumbers};
 ghost use Rattle.abc_link_names.specs.Linked.{IsLinkedFile};
 ghost use Rattle.abc_file_types.specs.Files.{Fits};
-ghost use Rattle.abc_verify.specs.FileRefusing.{IsPlaced, IsRefusedBy, IsUnverifiedBy, error_of_verify};
+ghost use Rattle.abc_verify.specs.FileRefusing.{IsRefusalPlaced, IsFileRefusedBy, IsUnverifiedBy, error_of_verify};
 ghost use Rattle.abc_verify.specs.Verified.{IsReadVerified, IsVerifiedOf};
 
 use crate::checked::Verified;
@@ -22,7 +22,7 @@ use std::alloc::Global;
 
 /// Why a file that links isn't verified.
 fn error_of(places: &Places, e: VerifyError) -> VerifiedError
-    requires { IsPlaced places.now e }
+    requires { IsRefusalPlaced places.now e }
     ensures { result ≡ error_of_verify places.now e }
 {
     match e {
@@ -43,7 +43,7 @@ fn error_of(places: &Places, e: VerifyError) -> VerifiedError
 /// A linked file that is verified, or why it isn't.
 fn verified_of(alloc: Global, linked: Linked, places: &Places) -> Result<Verified, VerifiedError>
     requires linked { IsLinkedFile linked }
-    requires numbered { IsNumbered linked }
+    requires numbered { HasLayoutNumbers linked }
     requires places { ArePlaces linked.file.bodies places.now }
     ensures ok { IfOk result (λ l. IsVerifiedOf linked.file l) }
     ensures refused { IfErr result (IsUnverifiedBy linked.file places.now) }
@@ -78,7 +78,7 @@ pub fn read_verified<S: Source>(
     ensures places { IfOk result (λ x. ArePlaces (x.0).file.bodies x.1) }
     ensures taken { TakesAtMost (S.left source.old) (S.left source.new) (2 ^ 24 + 1) }
     ensures end { IfOk result (λ _. IsUsedUp (S.left source.old) (S.left source.new)) }
-    ensures refused { IfErr result (λ e. OfInput (S.left source.old) (λ input. IsRefusedBy input e)) }
+    ensures refused { IfErr result (λ e. OfInput (S.left source.old) (λ input. IsFileRefusedBy input e)) }
     ensures later { S.faults source.old ≤ S.faults source.new }
     ensures cause { result ≡ Err VerifiedError.ReadFault → Rose (S.faults source.old) (S.faults source.new) }
 {

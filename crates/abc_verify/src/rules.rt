@@ -6,8 +6,8 @@ ghost use Rattle.abc_verify_typing.specs.Table.{sources};
 ghost use Rattle.abc_verify_flow.specs.Handled.{IsCoverAt};
 ghost use Rattle.abc_verify_typing.specs.Rules.{at_row, broken_early, early_rules, first_broken, has_form, has_locals, is_here, is_walked, keeps, late_rules, names_scope};
 ghost use Rattle.abc_verify_typing.specs.declared.rule.VerifyRule.TheVariants as variants;
-ghost use Rattle.abc_verify_states.specs.Frames.{routine_in};
-ghost use Rattle.abc_verify.specs.Asking.{AreKept, IsAsked};
+ghost use Rattle.abc_verify_states.specs.Frames.{routine_of_frame};
+ghost use Rattle.abc_verify.specs.Asking.{AreRulesKept, IsAsked};
 ghost use Rattle.abc_verify.specs.Visits.{here_in};
 
 use crate::kinds::kind_at;
@@ -88,7 +88,9 @@ impl Visit<'_> {
     /// Whether the locals that the instruction names are there.
     #[inline]
     fn has_locals(&self) -> bool
-        ensures { result ≡ has_locals self.now.row.locals self.now.instr.now (routine_in self.now.frame.now).local_count }
+        ensures { result
+            ≡ has_locals self.now.row.locals self.now.instr.now
+            (routine_of_frame self.now.frame.now).local_count }
     {
         match self.row.locals {
             Locals::Untouched => true,
@@ -99,7 +101,7 @@ impl Visit<'_> {
     /// Whether the instruction may stand in the method.
     #[inline]
     fn stands_here(&self) -> bool
-        ensures { result ≡ is_here (routine_in self.now.frame.now) self.now.row.site }
+        ensures { result ≡ is_here (routine_of_frame self.now.frame.now) self.now.row.site }
     {
         match self.row.site {
             Site::Anywhere => true,
@@ -110,7 +112,7 @@ impl Visit<'_> {
     /// Whether the instruction may stand in the method, mostly where it may not in each.
     #[inline(never)]
     fn may_stand_here(&self) -> bool
-        ensures { result ≡ is_here (routine_in self.now.frame.now) self.now.row.site }
+        ensures { result ≡ is_here (routine_of_frame self.now.frame.now) self.now.row.site }
     {
         match self.row.site {
             Site::Anywhere => true,
@@ -146,7 +148,7 @@ impl Visit<'_> {
     /// Whether the stack keeps to its size, with a value that is caught.
     fn fits_stack(&self, asked: &Asked, state: &State, cover: Cover) -> bool
         requires asked { IsAsked (here_in self.now) asked.now }
-        requires cover { IsCoverAt (routine_in self.now.frame.now) self.now.place cover }
+        requires cover { IsCoverAt (routine_of_frame self.now.frame.now) self.now.place cover }
         ensures { result ≡ keeps (here_in self.now) state.now variants.StackOver }
     {
         let size = self.frame.max_stack as usize;
@@ -158,7 +160,7 @@ impl Visit<'_> {
     #[inline(always)]
     fn keeps(&self, asked: &Asked, state: &State, cover: Cover, rule: VerifyRule) -> bool
         requires asked { IsAsked (here_in self.now) asked.now }
-        requires cover { IsCoverAt (routine_in self.now.frame.now) self.now.place cover }
+        requires cover { IsCoverAt (routine_of_frame self.now.frame.now) self.now.place cover }
         ensures { result ≡ keeps (here_in self.now) state.now rule }
     {
         let frame = self.frame;
@@ -206,8 +208,8 @@ impl Visit<'_> {
         second: VerifyRule,
     ) -> bool
         requires asked { IsAsked (here_in self.now) asked.now }
-        requires cover { IsCoverAt (routine_in self.now.frame.now) self.now.place cover }
-        ensures { OnTrue result (AreKept (here_in self.now) state.now (first ∷ second ∷ [])) }
+        requires cover { IsCoverAt (routine_of_frame self.now.frame.now) self.now.place cover }
+        ensures { OnTrue result (AreRulesKept (here_in self.now) state.now (first ∷ second ∷ [])) }
     {
         self.keeps(asked, state, cover, first) && self.keeps(asked, state, cover, second)
     }
@@ -216,8 +218,8 @@ impl Visit<'_> {
     #[tactic(auto, using(crate::proofs::Kept::four_kept))]
     fn keeps_early(&self, asked: &Asked, state: &State, cover: Cover) -> bool
         requires asked { IsAsked (here_in self.now) asked.now }
-        requires cover { IsCoverAt (routine_in self.now.frame.now) self.now.place cover }
-        ensures { OnTrue result (AreKept (here_in self.now) state.now early_rules) }
+        requires cover { IsCoverAt (routine_of_frame self.now.frame.now) self.now.place cover }
+        ensures { OnTrue result (AreRulesKept (here_in self.now) state.now early_rules) }
     {
         self.keeps_two(
             asked,
@@ -250,8 +252,8 @@ impl Visit<'_> {
     #[tactic(auto, using(crate::proofs::Kept::four_kept))]
     fn keeps_late(&self, asked: &Asked, state: &State, cover: Cover) -> bool
         requires asked { IsAsked (here_in self.now) asked.now }
-        requires cover { IsCoverAt (routine_in self.now.frame.now) self.now.place cover }
-        ensures { OnTrue result (AreKept (here_in self.now) state.now late_rules) }
+        requires cover { IsCoverAt (routine_of_frame self.now.frame.now) self.now.place cover }
+        ensures { OnTrue result (AreRulesKept (here_in self.now) state.now late_rules) }
     {
         self.keeps_two(
             asked,
@@ -284,8 +286,8 @@ impl Visit<'_> {
     #[tactic(auto, using(crate::proofs::Kept::all_kept))]
     fn keeps_all(&self, asked: &Asked, state: &State, cover: Cover) -> bool
         requires asked { IsAsked (here_in self.now) asked.now }
-        requires cover { IsCoverAt (routine_in self.now.frame.now) self.now.place cover }
-        ensures { OnTrue result (AreKept (here_in self.now) state.now (early_rules ++ late_rules)) }
+        requires cover { IsCoverAt (routine_of_frame self.now.frame.now) self.now.place cover }
+        ensures { OnTrue result (AreRulesKept (here_in self.now) state.now (early_rules ++ late_rules)) }
     {
         self.keeps_early(asked, state, cover) && self.keeps_late(asked, state, cover)
     }
@@ -302,7 +304,7 @@ impl Visit<'_> {
         rules: &[VerifyRule],
     ) -> Option<VerifyRule>
         requires asked { IsAsked (here_in self.now) asked.now }
-        requires cover { IsCoverAt (routine_in self.now.frame.now) self.now.place cover }
+        requires cover { IsCoverAt (routine_of_frame self.now.frame.now) self.now.place cover }
         ensures { result ≡ first_broken (keeps (here_in self.now) state.now) rules.now }
     {
         for rule in rules {
@@ -317,7 +319,7 @@ impl Visit<'_> {
     #[tactic(auto, using(crate::proofs::Kept::none_broken))]
     pub(crate) fn broken(&self, asked: &Asked, state: &State, cover: Cover) -> Option<VerifyRule>
         requires asked { IsAsked (here_in self.now) asked.now }
-        requires cover { IsCoverAt (routine_in self.now.frame.now) self.now.place cover }
+        requires cover { IsCoverAt (routine_of_frame self.now.frame.now) self.now.place cover }
         ensures { result ≡ first_broken (keeps (here_in self.now) state.now) (early_rules ++ late_rules) }
     {
         if self.keeps_all(asked, state, cover) {
@@ -335,7 +337,9 @@ fn broken_early_in(
     instr: &Instr,
     state: &State,
 ) -> Option<VerifyRule>
-    ensures { result ≡ at_row linked.now (routine_in frame.now) place instr.now early_rules state.now (row_at (opcode instr.now)) }
+    ensures { result
+        ≡ at_row linked.now (routine_of_frame frame.now) place instr.now early_rules state.now
+        (row_at (opcode instr.now)) }
 {
     match row_of(opcode_of(instr)) {
         Some(row) => {
@@ -359,7 +363,7 @@ pub fn broken_early_at(
     place: u32,
     state: &State,
 ) -> Option<VerifyRule>
-    ensures { result ≡ broken_early linked.now (routine_in frame.now) place state.now }
+    ensures { result ≡ broken_early linked.now (routine_of_frame frame.now) place state.now }
 {
     match frame.code.find(place as usize) {
         Some(instr) => broken_early_in(linked, frame, place, instr, state),

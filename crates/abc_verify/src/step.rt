@@ -1,13 +1,13 @@
 ghost use Rattle.std.specs.Prelude.{◌≡◌, IfOk, Some, map, not, set, slice_get};
 ghost use Rattle.abc_link_names.specs.declared.types.Kind.TheVariants as kinds;
-ghost use Rattle.abc_verify_typing.specs.Instructions.{local, second};
+ghost use Rattle.abc_verify_typing.specs.Instructions.{local, second_local};
 ghost use Rattle.abc_verify_typing.specs.Table.{sources};
 ghost use Rattle.abc_verify_typing.specs.declared.row.RowKind.TheVariants as rows;
 ghost use Rattle.abc_verify_flow.specs.Handled.{IsCoverAt};
 ghost use Rattle.abc_verify_flow.specs.Walking.{IsTriedAt};
 ghost use Rattle.abc_verify_flow.specs.declared.step.Written.TheVariants as writes;
-ghost use Rattle.abc_verify_typing.specs.Effects.{fixed, goes_on, is_null as is_null_by, kind_of as kind_of_source, locals_after, needs as needs_of, next as next_state, taken};
-ghost use Rattle.abc_verify_states.specs.Frames.{routine_in};
+ghost use Rattle.abc_verify_typing.specs.Effects.{kind_of_row, goes_on_after, is_null_kind as is_null_by, kind_of_source, locals_after, needs as needs_of, state_behind as next_state, stack_below};
+ghost use Rattle.abc_verify_states.specs.Frames.{routine_of_frame};
 ghost use Rattle.abc_verify.specs.Asking.{IsAsked};
 ghost use Rattle.abc_verify.specs.Visits.{IsTried, given_kinds, here_in, leads_away as leads_away_by, leads_on as leads_on_by, step_by, written_by};
 
@@ -77,7 +77,8 @@ impl Visit<'_> {
     #[inline]
     fn given(&self, asked: &Asked, state: &State) -> Given
         requires { IsAsked (here_in self.now) asked.now }
-        ensures { given_kinds result ≡ map (kind_of_source (here_in self.now) state.now) (sources self.now.row.gives) }
+        ensures { given_kinds result
+            ≡ map (kind_of_source (here_in self.now) state.now) (sources self.now.row.gives) }
     {
         match self.row.gives {
             Gives::Nothing => Given::Nothing,
@@ -92,8 +93,10 @@ impl Visit<'_> {
     /// Makes two locals an object that is walked over and an index, and says which.
     #[inline(never)]
     fn walk_over(&self, locals: &mut Table<Kind>) -> Written
-        ensures locals { locals.new ≡ set (set locals.old (local self.now.instr.now) (fixed self.now.linked.now rows.Object)) (second self.now.instr.now) kinds.Num }
-        ensures written { result ≡ writes.Two (local self.now.instr.now) (second self.now.instr.now) }
+        ensures locals { locals.new
+            ≡ set (set locals.old (local self.now.instr.now) (kind_of_row self.now.linked.now rows.Object))
+            (second_local self.now.instr.now) kinds.Num }
+        ensures written { result ≡ writes.Two (local self.now.instr.now) (second_local self.now.instr.now) }
     {
         let first = local_of(self.instr);
         let second = second_of(self.instr);
@@ -106,7 +109,12 @@ impl Visit<'_> {
     #[inline]
     fn change_locals(&self, asked: &Asked, state: &mut State) -> Written
         requires { IsAsked (here_in self.now) asked.now }
-        ensures locals { state.new ≡ record { stack = state.old.stack; scopes = state.old.scopes; locals = locals_after (here_in self.now) state.old self.now.row.locals } }
+        ensures locals { state.new
+            ≡ record {
+              stack = state.old.stack;
+              scopes = state.old.scopes;
+              locals = locals_after (here_in self.now) state.old self.now.row.locals;
+            } }
         ensures written { result ≡ written_by self.now.instr.now self.now.row.locals }
     {
         match self.row.locals {
@@ -126,7 +134,8 @@ impl Visit<'_> {
     #[inline]
     fn goes_on(&self, asked: &Asked, state: &State) -> bool
         requires { IsAsked (here_in self.now) asked.now }
-        ensures { result ≡ goes_on (needs_of (here_in self.now)) (taken (here_in self.now) state.now) }
+        ensures { result
+            ≡ goes_on_after (needs_of (here_in self.now)) (stack_below (here_in self.now) state.now) }
     {
         !is_null(self.receiver(asked, state))
     }
@@ -136,7 +145,10 @@ impl Visit<'_> {
     fn step(&self, asked: &Asked, state: &mut State) -> Result<Step, NoMemory>
         requires { IsAsked (here_in self.now) asked.now }
         ensures next { IfOk result (λ w. state.new ≡ next_state (here_in self.now) state.old) }
-        ensures leads { IfOk result (λ w. w ≡ step_by (goes_on (needs_of (here_in self.now)) (taken (here_in self.now) state.old)) self.now.row.leads (written_by self.now.instr.now self.now.row.locals)) }
+        ensures leads { IfOk result (λ w. w
+            ≡ step_by
+            (goes_on_after (needs_of (here_in self.now)) (stack_below (here_in self.now) state.old))
+            self.now.row.leads (written_by self.now.instr.now self.now.row.locals)) }
     {
         let goes = self.goes_on(asked, state);
         let given = self.given(asked, state);
@@ -156,7 +168,7 @@ impl Visit<'_> {
 impl Visit<'_> {
     /// Does the instruction to a state, if that breaks no rule.
     fn advance(&self, state: &mut State, cover: Cover) -> Result<Trial, NoMemory>
-        requires { IsCoverAt (routine_in self.now.frame.now) self.now.place cover }
+        requires { IsCoverAt (routine_of_frame self.now.frame.now) self.now.place cover }
         ensures { IfOk result (IsTried (here_in self.now) state.old state.new) }
     {
         let asked = self.asked();
@@ -181,8 +193,8 @@ fn advance_in(
     cover: Cover,
 ) -> Result<Trial, NoMemory>
     requires here { slice_get frame.now.code.now place ≡ Some instr.now }
-    requires cover { IsCoverAt (routine_in frame.now) place cover }
-    ensures { IfOk result (IsTriedAt linked.now (routine_in frame.now) place state.old state.new) }
+    requires cover { IsCoverAt (routine_of_frame frame.now) place cover }
+    ensures { IfOk result (IsTriedAt linked.now (routine_of_frame frame.now) place state.old state.new) }
 {
     match row_of(opcode_of(instr)) {
         Some(row) => {
@@ -211,8 +223,8 @@ pub fn advance_at(
     state: &mut State,
     cover: Cover,
 ) -> Result<Trial, NoMemory>
-    requires { IsCoverAt (routine_in frame.now) place cover }
-    ensures { IfOk result (IsTriedAt linked.now (routine_in frame.now) place state.old state.new) }
+    requires { IsCoverAt (routine_of_frame frame.now) place cover }
+    ensures { IfOk result (IsTriedAt linked.now (routine_of_frame frame.now) place state.old state.new) }
 {
     match frame.code.find(place as usize) {
         Some(instr) => {

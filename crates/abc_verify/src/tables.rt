@@ -1,9 +1,9 @@
 ghost use Rattle.std.specs.Prelude.{◌≡◌, ◌||◌, filter, length, ltb, map, not};
 ghost use Rattle.abc_verify_typing.specs.Instructions.{operand as operand_in, targets};
 ghost use Rattle.abc_verify_typing.specs.Effects.{covers, leads as leads_of};
-ghost use Rattle.abc_verify_typing.specs.Rules.{all_below, handler_target, in_table, is_empty};
+ghost use Rattle.abc_verify_typing.specs.Rules.{all_below, handler_target, in_table, is_without_catches};
 ghost use Rattle.abc_verify_flow.specs.Handled.{IsCoverAt};
-ghost use Rattle.abc_verify_states.specs.Frames.{routine_in};
+ghost use Rattle.abc_verify_states.specs.Frames.{routine_of_frame};
 ghost use Rattle.abc_verify.specs.Visits.{here_in};
 
 use crate::visit::Visit;
@@ -55,7 +55,7 @@ fn covers_place(handler: &Catch, place: u32) -> bool
 /// Whether one of some handlers covers a place.
 #[tactic(auto, using(crate::proofs::Loops::uncovered, crate::proofs::Loops::covered))]
 fn is_covered(handlers: &[Catch], place: u32) -> bool
-    ensures { not result ≡ is_empty (filter (covers place) handlers.now) }
+    ensures { not result ≡ is_without_catches (filter (covers place) handlers.now) }
 {
     for handler in handlers {
         if covers_place(handler, place) {
@@ -87,7 +87,7 @@ fn are_handlers_below(handlers: &[Catch], place: u32, end: usize) -> bool
 
 /// What the rules ask of the handlers of a method that cover a place.
 pub(crate) fn cover_at(frame: &Frame<'_>, place: u32) -> Cover
-    ensures { IsCoverAt (routine_in frame.now) place result }
+    ensures { IsCoverAt (routine_of_frame frame.now) place result }
 {
     let handlers = frame.handlers.as_slice();
     Cover {
@@ -100,7 +100,9 @@ impl Visit<'_> {
     /// Whether the places that follow are below the code's end.
     #[inline]
     pub(crate) fn leads_inside(&self) -> bool
-        ensures { result ≡ all_below (leads_of (here_in self.now) self.now.row.leads) (length self.now.frame.now.code.now) }
+        ensures { result
+            ≡ all_below (leads_of (here_in self.now) self.now.row.leads)
+            (length self.now.frame.now.code.now) }
     {
         let end = self.frame.code.len();
         let next = self.place as usize + 1;
@@ -116,7 +118,9 @@ impl Visit<'_> {
     /// Whether the operand is in its table.
     #[inline]
     pub(crate) fn is_in_table(&self) -> bool
-        ensures { result ≡ in_table self.now.linked.now (routine_in self.now.frame.now) self.now.row.operand (operand_in self.now.instr.now) }
+        ensures { result
+            ≡ in_table self.now.linked.now (routine_of_frame self.now.frame.now) self.now.row.operand
+            (operand_in self.now.instr.now) }
     {
         match self.row.operand {
             Operand::Unnamed => true,
@@ -127,7 +131,9 @@ impl Visit<'_> {
     /// Whether the operand is in its table, mostly where it names something.
     #[inline(never)]
     fn is_named_in_table(&self) -> bool
-        ensures { result ≡ in_table self.now.linked.now (routine_in self.now.frame.now) self.now.row.operand (operand_in self.now.instr.now) }
+        ensures { result
+            ≡ in_table self.now.linked.now (routine_of_frame self.now.frame.now) self.now.row.operand
+            (operand_in self.now.instr.now) }
     {
         let abc = self.linked.abc();
         let number = self.operand();

@@ -2,7 +2,7 @@ ghost use Rattle.std.specs.Prelude.{◌≡◌, ◌<◌, ◌*◌, ◌^◌, ◌≤
 ghost use Rattle.std.specs.Bool.{OnFalse, OnTrue};
 ghost use Rattle.abc_verify_typing.specs.Instructions.{operand as operand_in};
 ghost use Rattle.abc_verify_typing.specs.Table.{needs};
-ghost use Rattle.abc_verify_typing.specs.Effects.{args as args_of, needs as needs_of, unfolded};
+ghost use Rattle.abc_verify_typing.specs.Effects.{args as args_of, needs as needs_of, parts_of_need};
 ghost use Rattle.abc_verify_states.specs.Needs.{parts_of};
 ghost use Rattle.abc_verify.specs.Asking.{AreClosed, AreValues, HasValues, IsAsked};
 ghost use Rattle.abc_verify.specs.Visits.{here_in};
@@ -50,7 +50,7 @@ fn part_count(parts: Parts) -> usize
 
 /// How many values a need takes.
 pub(crate) fn need_count(need: Need, parts: Parts) -> usize
-    ensures count { result ≡ length (unfolded (parts_of parts) need) }
+    ensures count { result ≡ length (parts_of_need (parts_of parts) need) }
     ensures few { result ≤ 2 }
 {
     match need {
@@ -67,7 +67,7 @@ pub(crate) fn need_count(need: Need, parts: Parts) -> usize
 #[inline(never)]
 #[tactic(auto, using(crate::proofs::Asking::one_count, crate::proofs::Asking::two_count, crate::proofs::Asking::three_count))]
 fn takes_count(takes: Takes, parts: Parts) -> usize
-    ensures count { result ≡ length (flat_map (unfolded (parts_of parts)) (needs takes)) }
+    ensures count { result ≡ length (flat_map (parts_of_need (parts_of parts)) (needs takes)) }
     ensures few { result ≤ 6 }
 {
     match takes {
@@ -125,7 +125,7 @@ fn are_opened(takes: Takes) -> bool
 /// Whether the values of a need may be any.
 #[tactic(auto, using(crate::proofs::Plain::parts_plain))]
 fn is_plain_need(need: Need, parts: Parts) -> bool
-    ensures { OnTrue result (AreValues (unfolded (parts_of parts) need)) }
+    ensures { OnTrue result (AreValues (parts_of_need (parts_of parts) need)) }
 {
     match need {
         Need::Value => true,
@@ -140,7 +140,7 @@ fn is_plain_need(need: Need, parts: Parts) -> bool
 /// Whether the values of two needs may be any.
 #[tactic(auto, using(crate::proofs::Plain::two_plain))]
 fn are_plain_two(a: Need, b: Need, parts: Parts) -> bool
-    ensures { OnTrue result (AreValues (flat_map (unfolded (parts_of parts)) (a ∷ b ∷ []))) }
+    ensures { OnTrue result (AreValues (flat_map (parts_of_need (parts_of parts)) (a ∷ b ∷ []))) }
 {
     is_plain_need(a, parts) && is_plain_need(b, parts)
 }
@@ -148,7 +148,7 @@ fn are_plain_two(a: Need, b: Need, parts: Parts) -> bool
 /// Whether the values of three needs may be any.
 #[tactic(auto, using(crate::proofs::Plain::three_plain))]
 fn are_plain_three(a: Need, b: Need, c: Need, parts: Parts) -> bool
-    ensures { OnTrue result (AreValues (flat_map (unfolded (parts_of parts)) (a ∷ b ∷ c ∷ []))) }
+    ensures { OnTrue result (AreValues (flat_map (parts_of_need (parts_of parts)) (a ∷ b ∷ c ∷ []))) }
 {
     is_plain_need(a, parts) && are_plain_two(b, c, parts)
 }
@@ -157,7 +157,7 @@ fn are_plain_three(a: Need, b: Need, c: Need, parts: Parts) -> bool
 #[inline(never)]
 #[tactic(auto, using(crate::proofs::Plain::one_plain))]
 fn are_plain(takes: Takes, parts: Parts) -> bool
-    ensures { OnTrue result (AreValues (flat_map (unfolded (parts_of parts)) (needs takes))) }
+    ensures { OnTrue result (AreValues (flat_map (parts_of_need (parts_of parts)) (needs takes))) }
 {
     match takes {
         Takes::Nothing => true,
@@ -201,7 +201,8 @@ impl Visit<'_> {
     #[inline]
     #[tactic(auto, using(crate::proofs::Plain::closed_parts, crate::proofs::Plain::named_parts))]
     fn parts(&self) -> Parts
-        ensures { flat_map (unfolded (parts_of result)) (needs self.now.row.takes) ≡ needs_of (here_in self.now) }
+        ensures { flat_map (parts_of_need (parts_of result)) (needs self.now.row.takes)
+            ≡ needs_of (here_in self.now) }
     {
         if are_opened(self.row.takes) {
             return parts_of_name(self.linked, self.operand());

@@ -6,7 +6,7 @@ use Rattle.std.proofs.lemmas.Bool.{cases_eq}
 use Rattle.abc_link_names.specs.declared.types.Kind.{Kind}
 use Rattle.abc_verify_flow.proofs.Numbers.{got_other, got_same}
 use Rattle.abc_verify_flow.proofs.Parts.{added_length, got_inside, got_last, got_map, map_but, map_same, over_length, part_before, part_behind, part_last, part_longer, part_put, set_same}
-use Rattle.abc_verify_flow.specs.Blocks.{AreAlone, AreDisjoint, IsFree, IsMarked, block_of, blocks_of}
+use Rattle.abc_verify_flow.specs.Blocks.{AreAlone, AreDisjoint, IsBlockFree, IsBlockMarked, block_of, blocks_of}
 use Rattle.abc_verify_flow.specs.Kept.{IsLonger, IsSpan, over, part}
 use Rattle.abc_verify_flow.specs.declared.blocks.Block.{Block}
 use Rattle.abc_verify_flow.specs.declared.span.Span.{Span}
@@ -135,7 +135,7 @@ shared s = record { span = s; is_shared = true }
 pub none_alone : AreAlone [] 0
 none_alone = record { inside = λ i b e. absurd cc; alone = λ i j b c ne e f off. absurd cc }
 
-module _ (bs cs : List Block) (i : ℕ) (s : Span) (m : IsMarked bs cs i s) where
+module _ (bs cs : List Block) (i : ℕ) (s : Span) (m : IsBlockMarked bs cs i s) where
   pub marked_here : slice_get cs i ≡ Some (shared s)
   marked_here = ap (λ (xs : List Block). slice_get xs i) m.set_in ∙ got_same bs i (shared s) (got_inside bs i m.block m.was)
 
@@ -188,10 +188,10 @@ module _ (bs : List Block) (ks ms : List Kind) (a : List (List Kind)) where
       ∙ ap (λ (zs : List (List Kind)). set zs i (block_of ms b)) (longer_blocks old (xs, e) view)
       ∙ ap (λ (z : List Kind). set a i z) (part_last b.span ks xs ms is e)
 
-  pub put_alone : (i : ℕ) (b : Block) (xs : List Kind) → AreAlone bs (length ks) → slice_get bs i ≡ Some b → IsFree b (length xs) → ms ≡ over b.span ks xs → AreAlone bs (length ms)
+  pub put_alone : (i : ℕ) (b : Block) (xs : List Kind) → AreAlone bs (length ks) → slice_get bs i ≡ Some b → IsBlockFree b (length xs) → ms ≡ over b.span ks xs → AreAlone bs (length ms)
   put_alone i b xs old e free is = alone_more bs (length ks) (length ms) old (let z = over_length b.span ks xs ms is (old.inside i b e) free.count in omega (arith, z))
 
-  pub put_blocks : (i : ℕ) (b : Block) (xs : List Kind) → AreAlone bs (length ks) → slice_get bs i ≡ Some b → IsFree b (length xs) → ms ≡ over b.span ks xs → blocks_of ks bs ≡ a → blocks_of ms bs ≡ set a i xs
+  pub put_blocks : (i : ℕ) (b : Block) (xs : List Kind) → AreAlone bs (length ks) → slice_get bs i ≡ Some b → IsBlockFree b (length xs) → ms ≡ over b.span ks xs → blocks_of ks bs ≡ a → blocks_of ms bs ≡ set a i xs
   put_blocks i b xs old e free is view =
       map_but (block_of ks) (block_of ms) bs i xs (got_inside bs i b e) here (λ j k ne f. alone_kept bs i j b k ks xs ms old e ne f free.alone is free.count)
       ∙ ap (λ (zs : List (List Kind)). set zs i xs) view

@@ -6,25 +6,25 @@ use Rattle.std.proofs.lemmas.List.{length-replicate}
 use Rattle.abc_link_names.specs.Linked.{IsLinkedFile, LinkedFile}
 use Rattle.abc_verify_typing.specs.Routines.{Routine}
 use Rattle.abc_verify_typing.specs.Typing.{Entry, HasTyping, In, entry}
-use Rattle.abc_verify_typing.specs.Work.{at, total, walked}
-use Rattle.abc_verify_typing.specs.Rank.{layouts, rank, top}
+use Rattle.abc_verify_typing.specs.Work.{at, total_rank, state_on_walk}
+use Rattle.abc_verify_typing.specs.Rank.{layouts, rank_of_state, top_rank}
 use Rattle.abc_verify_typing.specs.declared.state.State.{State}
 use Rattle.abc_verify_typing.proofs.Turn.{at-set_same}
-use Rattle.abc_verify_flow.specs.Waits.{IsAdded, IsTaken}
+use Rattle.abc_verify_flow.specs.Waits.{IsPlaceAdded, IsLowestTaken}
 use Rattle.abc_verify_flow.specs.Walking.{HasTurned, IsForward, IsSettled, RefusedBy, count_known, is_head, most_walks}
 use Rattle.abc_verify_flow.specs.declared.step.Refusal.{Refusal}
 use Rattle.abc_verify_flow.proofs.Places.{merge_first}
 
 -- what the states can rise yet and the walks that they allow are all that states can rise
-all_rises : (rank : State → ℕ) (top : ℕ) (os : List (Option State)) → total rank top (replicate (length os) None) ≤ total rank top os + most_walks rank top os
+all_rises : (rank : State → ℕ) (top : ℕ) (os : List (Option State)) → total_rank rank top (replicate (length os) None) ≤ total_rank rank top os + most_walks rank top os
 all_rises rank top [] = omega arith
 all_rises rank top (None ∷ os) = let r = all_rises rank top os in omega (arith, r)
 all_rises rank top (Some s ∷ os) = let r = all_rises rank top os in omega (arith, r)
 
-pub few_walks : (rank : State → ℕ) (top : ℕ) (os : List (Option State)) (walks n : ℕ) → length os ≡ n → walks + total rank top os ≤ total rank top (replicate n None) → walks ≤ most_walks rank top os
+pub few_walks : (rank : State → ℕ) (top : ℕ) (os : List (Option State)) (walks n : ℕ) → length os ≡ n → walks + total_rank rank top os ≤ total_rank rank top (replicate n None) → walks ≤ most_walks rank top os
 few_walks rank top os walks n e h =
     let r = all_rises rank top os in
-    let q : total rank top (replicate (length os) None) ≡ total rank top (replicate n None) = ap (λ (k : ℕ). total rank top (replicate k None)) e in
+    let q : total_rank rank top (replicate (length os) None) ≡ total_rank rank top (replicate n None) = ap (λ (k : ℕ). total_rank rank top (replicate k None)) e in
     omega (arith, r, q, h)
 
 blank_at : (n i : ℕ) → at (replicate n None) i ≡ None
@@ -33,7 +33,7 @@ blank_at (suc n) zero = refl
 blank_at (suc n) (suc i) = blank_at n i
 
 -- the first place gets the state that a method begins with
-pub first_rises : (p : LinkedFile) (m : Routine) (heads : List Bool) → IsLinkedFile p → 0 < length m.code → is_head heads 0 ≡ true → total (rank (layouts p)) (top (layouts p) m) (set (replicate (length m.code) None) 0 (Some (entry m))) + 1 ≤ total (rank (layouts p)) (top (layouts p) m) (replicate (length m.code) None)
+pub first_rises : (p : LinkedFile) (m : Routine) (heads : List Bool) → IsLinkedFile p → 0 < length m.code → is_head heads 0 ≡ true → total_rank (rank_of_state (layouts p)) (top_rank (layouts p) m) (set (replicate (length m.code) None) 0 (Some (entry m))) + 1 ≤ total_rank (rank_of_state (layouts p)) (top_rank (layouts p) m) (replicate (length m.code) None)
 first_rises p m heads linked some head =
     let blank : List (Option State) = replicate (length m.code) None in
     let r = merge_first p m heads blank [] 0 (entry m) linked (blank_at (length m.code) 0)
@@ -48,7 +48,7 @@ next_most walks more e = subst (λ (n : ℕ). n ≤ walks + 1) (sym e) (min-le_l
 
 -- what settles a method is a typing of it
 pub settled_typing : (p : LinkedFile) (m : Routine) (heads : List Bool) (states : List (Option State)) (r : Result ℕ Refusal) → MatchResult r (λ walks. IsSettled p m heads walks states) (λ e. RefusedBy p m e) → MatchResult r (λ walks. HasTyping p m × IsSettled p m heads walks states) (λ e. RefusedBy p m e)
-settled_typing p m heads states (Ok walks) k = ((walked p m (is_head heads) states, k.typing), k)
+settled_typing p m heads states (Ok walks) k = ((state_on_walk p m (is_head heads) states, k.typing), k)
 settled_typing p m heads states (Err e) k = k
 
 -- ---- where nothing leads back
@@ -101,7 +101,7 @@ known_next (Some u ∷ os) (suc i) s e = ap suc (known_next os i s e)
 pub once_first : (walks : ℕ) (states : List (Option State)) (work : List ℕ) → walks ≡ 0 → IsOnce walks states work
 once_first walks states work none = record { place = 0; behind = λ i h. omega arith; few = omega (arith, none) }
 
-pub known_first : (p : LinkedFile) (m : Routine) (states : List (Option State)) (work : List ℕ) → 0 < length m.code → states ≡ set (replicate (length m.code) None) 0 (Some (entry m)) → IsAdded 0 [] work → AllKnown states work
+pub known_first : (p : LinkedFile) (m : Routine) (states : List (Option State)) (work : List ℕ) → 0 < length m.code → states ≡ set (replicate (length m.code) None) 0 (Some (entry m)) → IsPlaceAdded 0 [] work → AllKnown states work
 known_first p m states work some e added i h = (entry m, go (added.only i h))
   where
     blank : List (Option State)
@@ -118,7 +118,7 @@ known_first p m states work some e added i h = (entry m, go (added.only i h))
     go (inr k) = absurd k
 
 module _ (p : LinkedFile) (m : Routine) (heads : List Bool) (place : ℕ) (a c : List (Option State)) (old v w : List ℕ) where
-  pub known_on : IsTaken place old v → HasTurned p m heads place a v c w → AllKnown a old → AllKnown c w
+  pub known_on : IsLowestTaken place old v → HasTurned p m heads place a v c w → AllKnown a old → AllKnown c w
   known_on taken turned known i h = elim (turned.adds i h) [
     | inr j ↦ (j.0, j.1)
     | inl j ↦ (
@@ -127,7 +127,7 @@ module _ (p : LinkedFile) (m : Routine) (heads : List Bool) (place : ℕ) (a c :
         (r.0, r.1))
   ]
 
-  pub once_on : (walks more : ℕ) → more ≤ walks + 1 → IsTaken place old v → HasTurned p m heads place a v c w → AllKnown a old → IsForward m → IsOnce walks a old → IsOnce more c w
+  pub once_on : (walks more : ℕ) → more ≤ walks + 1 → IsLowestTaken place old v → HasTurned p m heads place a v c w → AllKnown a old → IsForward m → IsOnce walks a old → IsOnce more c w
   once_on walks more le taken turned known on once =
       let first : In place old = subst (λ (xs : List ℕ). In place xs) (sym taken.is) (inl refl) in
       let here = known place first in

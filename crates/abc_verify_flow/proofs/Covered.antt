@@ -2,11 +2,11 @@
 use Rattle.std.proofs.Common.{◌≡◌, ℕ, zero, suc, ◌≤◌, ◌<◌, List, [], ◌∷◌, ◌⊎◌, Some, refl, sym, ap, ◌∙◌, subst, inl, inr}
 use Rattle.std.specs.Prelude.{Bool, true, false, cond, not, map, filter, slice_get, leb, ltb, ◌&&◌}
 use Rattle.std.proofs.lemmas.Bool.{cases_Bool, le-leb, leb-true, lt-ltb, ltb-true}
-use Rattle.abc_base_trees.specs.Hung.{AreHung, Covers, IsFree, IsTaken, leaf, up}
+use Rattle.abc_base_trees.specs.Hung.{AreHung, Covers, IsStabFree, IsStabTaken, leaf, levels_above}
 use Rattle.abc_base_trees.specs.declared.hang.Range.{Range}
 use Rattle.abc_base_trees.specs.declared.stabs.Stabs.{Stabs}
 use Rattle.abc_verify_typing.specs.Effects.{covers}
-use Rattle.abc_verify_typing.specs.Rules.{all_below, handler_target, is_empty}
+use Rattle.abc_verify_typing.specs.Rules.{all_below, handler_target, is_without_catches}
 use Rattle.abc_verify_typing.specs.Typing.{In}
 use Rattle.abc_verify_typing.specs.declared.catch.Catch.{Catch}
 use Rattle.abc_verify_typing.proofs.Member.{and_both, and_left, and_right}
@@ -73,29 +73,29 @@ covers_at hs x h i =
     (a.0, a.1, (range_of h, range_at hs a.0 h a.1, low, high))
 
 -- what hangs above a place covers it
-pub hung_covers : (hs : List Catch) (t : Stabs) (j x : ℕ) (h : Catch) → AreHung (map range_of hs) t → HandlerAt t hs (up j (leaf t x)) h → In h (filter (covers x) hs)
+pub hung_covers : (hs : List Catch) (t : Stabs) (j x : ℕ) (h : Catch) → AreHung (map range_of hs) t → HandlerAt t hs (levels_above j (leaf t x)) h → In h (filter (covers x) hs)
 hung_covers hs t j x h a g =
     let c = covered_at hs g.number x (a.only j g.number x g.hangs) in
     let q : c.0 ≡ h = (let e : Some c.0 ≡ Some h = sym c.1 ∙ g.is in cc) in
     subst (λ (y : Catch). In y (filter (covers x) hs)) q c.2
 
 -- what covers a place hangs above it
-pub covers_hung : (hs : List Catch) (t : Stabs) (x : ℕ) (h : Catch) → AreHung (map range_of hs) t → In h (filter (covers x) hs) → (j : ℕ) × HandlerAt t hs (up j (leaf t x)) h
+pub covers_hung : (hs : List Catch) (t : Stabs) (x : ℕ) (h : Catch) → AreHung (map range_of hs) t → In h (filter (covers x) hs) → (j : ℕ) × HandlerAt t hs (levels_above j (leaf t x)) h
 covers_hung hs t x h a i = let c = covers_at hs x h i in let e = a.every c.0 x c.2 in (e.0, record { number = c.0; hangs = e.1; is = c.1 })
 
 -- ---- what the rules ask
 
-none_free : (hs : List Catch) (t : Stabs) (x : ℕ) (h : Catch) → AreHung (map range_of hs) t → IsFree t x → In h (filter (covers x) hs) → ⊥
+none_free : (hs : List Catch) (t : Stabs) (x : ℕ) (h : Catch) → AreHung (map range_of hs) t → IsStabFree t x → In h (filter (covers x) hs) → ⊥
 none_free hs t x h a free i = let c = covers_hung hs t x h a i in free c.0 c.1.number c.1.hangs
 
-some_taken : (hs : List Catch) (t : Stabs) (x : ℕ) → AreHung (map range_of hs) t → IsTaken t x → (h : Catch) × In h (filter (covers x) hs)
+some_taken : (hs : List Catch) (t : Stabs) (x : ℕ) → AreHung (map range_of hs) t → IsStabTaken t x → (h : Catch) × In h (filter (covers x) hs)
 some_taken hs t x a taken = let c = covered_at hs taken.1.0 x (a.only taken.0 taken.1.0 x taken.1.1) in (c.0, c.2)
 
-empty_if : (hs : List Catch) → ((h : Catch) → In h hs → ⊥) → is_empty hs ≡ true
+empty_if : (hs : List Catch) → ((h : Catch) → In h hs → ⊥) → is_without_catches hs ≡ true
 empty_if [] none = refl
 empty_if (x ∷ hs) none = absurd (none x (inl refl))
 
-pub empty_not : (hs : List Catch) (h : Catch) → In h hs → is_empty hs ≡ false
+pub empty_not : (hs : List Catch) (h : Catch) → In h hs → is_without_catches hs ≡ false
 empty_not [] h i = absurd i
 empty_not (x ∷ hs) h i = refl
 
@@ -116,10 +116,10 @@ not_back : (b : Bool) → not b ≡ true → b ≡ false
 not_back true e = absurd cc
 not_back false e = refl
 
-pub cover_is : (hs : List Catch) (end x : ℕ) (h : Handled) (c : Cover) → IsHandled hs end h → (c.is_empty ≡ true → IsFree h.all x) → (c.is_empty ≡ false → IsTaken h.all x) → (c.is_inside ≡ true → IsFree h.beyond x) → (c.is_inside ≡ false → IsTaken h.beyond x) → IsCover (filter (covers x) hs) end c
+pub cover_is : (hs : List Catch) (end x : ℕ) (h : Handled) (c : Cover) → IsHandled hs end h → (c.is_empty ≡ true → IsStabFree h.all x) → (c.is_empty ≡ false → IsStabTaken h.all x) → (c.is_inside ≡ true → IsStabFree h.beyond x) → (c.is_inside ≡ false → IsStabTaken h.beyond x) → IsCover (filter (covers x) hs) end c
 cover_is hs end x h c a free taken inner outer = record { none = none (cases_Bool c.is_empty); inside = inside (cases_Bool c.is_inside) }
   where
-    none : (c.is_empty ≡ true) ⊎ (c.is_empty ≡ false) → c.is_empty ≡ is_empty (filter (covers x) hs)
+    none : (c.is_empty ≡ true) ⊎ (c.is_empty ≡ false) → c.is_empty ≡ is_without_catches (filter (covers x) hs)
     none (inl on) = on ∙ sym (empty_if (filter (covers x) hs) (λ g i. none_free hs h.all x g a.all (free on) i))
     none (inr off) = off ∙ sym (let s = some_taken hs h.all x a.all (taken off) in empty_not (filter (covers x) hs) s.0 s.1)
 

@@ -6,13 +6,13 @@ use Rattle.std.proofs.lemmas.List.{map-set}
 use Rattle.std.proofs.lemmas.Option.{slice_get_past}
 use Rattle.std.proofs.Math.ListN.{length-set}
 use Rattle.abc_verify_typing.proofs.Lists.{slice_get-last}
-use Rattle.abc_verify_flow.specs.Kept.{AreNumbers, known_at, numbered}
+use Rattle.abc_verify_flow.specs.Kept.{ArePlaceNumbers, known_at, known_of_number}
 
-pub numbered_none : {X : Type 0} (known : List X) (n : ℕ) → (1 ≤ n → ⊥) → numbered known n ≡ None
+pub numbered_none : {X : Type 0} (known : List X) (n : ℕ) → (1 ≤ n → ⊥) → known_of_number known n ≡ None
 numbered_none known zero h = refl
 numbered_none known (suc n) h = absurd (h (omega arith))
 
-pub numbered_next : {X : Type 0} (known : List X) (n i : ℕ) → 1 ≤ n → n - 1 ≡ i → numbered known n ≡ slice_get known i
+pub numbered_next : {X : Type 0} (known : List X) (n i : ℕ) → 1 ≤ n → n - 1 ≡ i → known_of_number known n ≡ slice_get known i
 numbered_next known zero i h e = absurd (omega arith)
 numbered_next known (suc n) i h e = let q : n ≡ i = omega arith in ap (slice_get known) q
 
@@ -23,14 +23,14 @@ get_blank zero i k e = cc
 get_blank (suc n) zero k e = let q : 0 ≡ suc k = cc in omega arith
 get_blank (suc n) (suc i) k e = get_blank n i k e
 
-pub blank_numbers : (n m : ℕ) → AreNumbers (replicate n 0) m
+pub blank_numbers : (n m : ℕ) → ArePlaceNumbers (replicate n 0) m
 blank_numbers n m = record { inside = λ i k e. absurd (get_blank n i k e); apart = λ i j k e f. absurd (get_blank n i k e) }
 
 pub blank_known : {X : Type 0} (n : ℕ) (ks : List X) → known_at (replicate n 0) ks ≡ replicate n None
 blank_known zero ks = refl
 blank_known {X} (suc n) ks = ap (λ (xs : List (Option X)). None ∷ xs) (blank_known n ks)
 
-pub no_numbers : (m : ℕ) → AreNumbers [] m
+pub no_numbers : (m : ℕ) → ArePlaceNumbers [] m
 no_numbers m = record { inside = λ i k e. absurd cc; apart = λ i j k e f. absurd cc }
 
 -- ---- a value takes the place of another, or comes at the end
@@ -54,8 +54,8 @@ got_same (a ∷ ks) (suc i) k h = got_same ks i k (omega arith)
 
 -- ---- a place gets a state of its own
 
-pub new_numbers : (ns : List ℕ) (c i m : ℕ) → AreNumbers ns c → i < length ns → m ≡ c + 1 → AreNumbers (set ns i m) (c + 1)
-new_numbers ns c i m h lt q = subst (λ (k : ℕ). AreNumbers (set ns i k) (c + 1)) (let z : suc c ≡ m = omega arith in z) record { inside = inside; apart = apart }
+pub new_numbers : (ns : List ℕ) (c i m : ℕ) → ArePlaceNumbers ns c → i < length ns → m ≡ c + 1 → ArePlaceNumbers (set ns i m) (c + 1)
+new_numbers ns c i m h lt q = subst (λ (k : ℕ). ArePlaceNumbers (set ns i k) (c + 1)) (let z : suc c ≡ m = omega arith in z) record { inside = inside; apart = apart }
   where
     old : (j n : ℕ) → slice_get (set ns i (suc c)) j ≡ Some (suc n) → (slice_get ns j ≡ Some (suc n)) ⊎ ((n ≡ c) × (i ≡ j))
     old j n f = elim (cases_eq i j) [
@@ -85,30 +85,30 @@ known_more {X} (suc n ∷ ns) ks k h =
     let e : slice_get (ks ++ k ∷ []) n ≡ slice_get ks n = got_more ks k n (h 0 n refl) in
     ap (λ (x : Option X). x ∷ known_at ns (ks ++ k ∷ [])) e ∙ ap (λ (xs : List (Option X)). slice_get ks n ∷ xs) (known_more ns ks k (λ i m f. h (suc i) m f))
 
-pub new_known : {X : Type 0} (ns : List ℕ) (ks : List X) (i m : ℕ) (k : X) → AreNumbers ns (length ks) → m ≡ length ks + 1 → known_at (set ns i m) (ks ++ k ∷ []) ≡ set (known_at ns ks) i (Some k)
+pub new_known : {X : Type 0} (ns : List ℕ) (ks : List X) (i m : ℕ) (k : X) → ArePlaceNumbers ns (length ks) → m ≡ length ks + 1 → known_at (set ns i m) (ks ++ k ∷ []) ≡ set (known_at ns ks) i (Some k)
 new_known {X} ns ks i m k h q =
     let z : m ≡ suc (length ks) = omega (arith, q) in
-    let one : numbered (ks ++ k ∷ []) m ≡ Some k = ap (numbered (ks ++ k ∷ [])) z ∙ slice_get-last ks k in
-    map-set (numbered (ks ++ k ∷ [])) ns i m
-    ∙ ap (λ (xs : List (Option X)). set xs i (numbered (ks ++ k ∷ []) m)) (known_more ns ks k h.inside)
+    let one : known_of_number (ks ++ k ∷ []) m ≡ Some k = ap (known_of_number (ks ++ k ∷ [])) z ∙ slice_get-last ks k in
+    map-set (known_of_number (ks ++ k ∷ [])) ns i m
+    ∙ ap (λ (xs : List (Option X)). set xs i (known_of_number (ks ++ k ∷ []) m)) (known_more ns ks k h.inside)
     ∙ ap (λ (x : Option X). set (known_at ns ks) i x) one
 
 -- a place has a new number, and there is one state more
-pub new_kept : {X : Type 0} (ns ms : List ℕ) (ks js : List X) (i m : ℕ) (k : X) → AreNumbers ns (length ks) → i < length ns → js ≡ ks ++ k ∷ [] → m ≡ length ks + 1 → ms ≡ set ns i m → AreNumbers ms (length js)
+pub new_kept : {X : Type 0} (ns ms : List ℕ) (ks js : List X) (i m : ℕ) (k : X) → ArePlaceNumbers ns (length ks) → i < length ns → js ≡ ks ++ k ∷ [] → m ≡ length ks + 1 → ms ≡ set ns i m → ArePlaceNumbers ms (length js)
 new_kept {X} ns ms ks js i m k h lt is q z =
     let long : length js ≡ length (ks ++ k ∷ []) = ap (λ (xs : List X). length xs) is in
     let more = length-append ks (k ∷ []) in
     let same : length ks + 1 ≡ length js = omega (arith, long, more) in
-    subst (λ (xs : List ℕ). AreNumbers xs (length js)) (sym z) (subst (λ (c : ℕ). AreNumbers (set ns i m) c) same (new_numbers ns (length ks) i m h lt q))
+    subst (λ (xs : List ℕ). ArePlaceNumbers xs (length js)) (sym z) (subst (λ (c : ℕ). ArePlaceNumbers (set ns i m) c) same (new_numbers ns (length ks) i m h lt q))
 
-pub new_view : {X : Type 0} (ns ms : List ℕ) (ks js : List X) (i m : ℕ) (k : X) → AreNumbers ns (length ks) → js ≡ ks ++ k ∷ [] → m ≡ length ks + 1 → ms ≡ set ns i m → known_at ms js ≡ set (known_at ns ks) i (Some k)
+pub new_view : {X : Type 0} (ns ms : List ℕ) (ks js : List X) (i m : ℕ) (k : X) → ArePlaceNumbers ns (length ks) → js ≡ ks ++ k ∷ [] → m ≡ length ks + 1 → ms ≡ set ns i m → known_at ms js ≡ set (known_at ns ks) i (Some k)
 new_view {X} ns ms ks js i m k h is q z =
     ap (λ (xs : List ℕ). known_at xs js) z
     ∙ ap (λ (xs : List X). known_at (set ns i m) xs) is
     ∙ new_known ns ks i m k h q
 
 -- more states behind those that have numbers
-pub longer_kept : {X : Type 0} (ns : List ℕ) (ks js : List X) (k : X) → AreNumbers ns (length ks) → js ≡ ks ++ k ∷ [] → AreNumbers ns (length js)
+pub longer_kept : {X : Type 0} (ns : List ℕ) (ks js : List X) (k : X) → ArePlaceNumbers ns (length ks) → js ≡ ks ++ k ∷ [] → ArePlaceNumbers ns (length js)
 longer_kept {X} ns ks js k h is =
     let long : length js ≡ length (ks ++ k ∷ []) = ap (λ (xs : List X). length xs) is in
     let more = length-append ks (k ∷ []) in
@@ -135,24 +135,24 @@ known_again {X} (suc m ∷ ns) ks (suc i) n k low e one =
     let ne : n ≢ m = λ q. let z = one 0 (ap (λ (j : ℕ). Some (suc j)) (sym q)) in omega arith in
     ap (λ (x : Option X). x ∷ known_at ns (set ks n k)) (got_other ks n m k ne) ∙ ap (λ (xs : List (Option X)). slice_get ks m ∷ xs) (known_again ns ks i n k low e (λ j f. let z = one (suc j) f in omega arith))
 
-pub again_known : {X : Type 0} (ns : List ℕ) (ks js : List X) (i n : ℕ) (k : X) → AreNumbers ns (length ks) → slice_get ns i ≡ Some (n + 1) → js ≡ set ks n k → known_at ns js ≡ set (known_at ns ks) i (Some k)
+pub again_known : {X : Type 0} (ns : List ℕ) (ks js : List X) (i n : ℕ) (k : X) → ArePlaceNumbers ns (length ks) → slice_get ns i ≡ Some (n + 1) → js ≡ set ks n k → known_at ns js ≡ set (known_at ns ks) i (Some k)
 again_known {X} ns ks js i n k h e is =
     let z : n + 1 ≡ suc n = omega arith in
     let f : slice_get ns i ≡ Some (suc n) = e ∙ ap (λ (m : ℕ). Some m) z in
     ap (known_at ns) is ∙ known_again ns ks i n k (h.inside i n f) f (λ j g. h.apart i j n f g)
 
-pub again_kept : {X : Type 0} (ns : List ℕ) (ks js : List X) (n : ℕ) (k : X) → AreNumbers ns (length ks) → js ≡ set ks n k → AreNumbers ns (length js)
+pub again_kept : {X : Type 0} (ns : List ℕ) (ks js : List X) (n : ℕ) (k : X) → ArePlaceNumbers ns (length ks) → js ≡ set ks n k → ArePlaceNumbers ns (length js)
 again_kept {X} ns ks js n k h is =
     let long : length js ≡ length (set ks n k) = ap (λ (xs : List X). length xs) is in
     let same = length-set ks n k in
     let all : length ks ≡ length js = omega (arith, long, same) in
-    subst (λ (c : ℕ). AreNumbers ns c) all h
+    subst (λ (c : ℕ). ArePlaceNumbers ns c) all h
 
 -- ---- what is read
 
-pub at_number : {X : Type 0} (ns : List ℕ) (ks : List X) (i n : ℕ) → slice_get ns i ≡ Some n → slice_get (known_at ns ks) i ≡ Some (numbered ks n)
+pub at_number : {X : Type 0} (ns : List ℕ) (ks : List X) (i n : ℕ) → slice_get ns i ≡ Some n → slice_get (known_at ns ks) i ≡ Some (known_of_number ks n)
 at_number [] ks i n e = absurd cc
-at_number (m ∷ ns) ks zero n e = let q : m ≡ n = cc in ap (λ (j : ℕ). Some (numbered ks j)) q
+at_number (m ∷ ns) ks zero n e = let q : m ≡ n = cc in ap (λ (j : ℕ). Some (known_of_number ks j)) q
 at_number (m ∷ ns) ks (suc i) n e = at_number ns ks i n e
 
 pub at_none : {X : Type 0} (ns : List ℕ) (ks : List X) (i : ℕ) → slice_get ns i ≡ None → slice_get (known_at ns ks) i ≡ None
@@ -174,16 +174,16 @@ pub known_here : {X : Type 0} (ns : List ℕ) (ks : List X) (a : List (Option X)
 known_here {X} ns ks a t n i x e z lt q is = ap (λ (xs : List (Option X)). slice_get xs t) (sym e) ∙ at_number ns ks t n z ∙ ap (λ (o : Option X). Some o) (numbered_next ks n i lt (sym q) ∙ is)
 
 -- where a state stands in the list
-pub place_kept : (ns : List ℕ) (all t n i : ℕ) → AreNumbers ns all → slice_get ns t ≡ Some n → 1 ≤ n → i ≡ n - 1 → i < all
+pub place_kept : (ns : List ℕ) (all t n i : ℕ) → ArePlaceNumbers ns all → slice_get ns t ≡ Some n → 1 ≤ n → i ≡ n - 1 → i < all
 place_kept ns all t zero i h e lt q = absurd (omega arith)
 place_kept ns all t (suc n) i h e lt q = let z = h.inside t n e in omega (arith, z, q)
 
 pub index_has : (ns : List ℕ) (t n i : ℕ) → slice_get ns t ≡ Some n → 1 ≤ n → i ≡ n - 1 → slice_get ns t ≡ Some (i + 1)
 index_has ns t n i e lt q = let z : n ≡ i + 1 = omega (arith, lt, q) in e ∙ ap (λ (m : ℕ). Some m) z
 
-pub has_inside : (ns : List ℕ) (all t i : ℕ) → AreNumbers ns all → slice_get ns t ≡ Some (i + 1) → i < all
+pub has_inside : (ns : List ℕ) (all t i : ℕ) → ArePlaceNumbers ns all → slice_get ns t ≡ Some (i + 1) → i < all
 has_inside ns all t i h e = place_kept ns all t (i + 1) i h e (omega arith) (omega arith)
 
-pub numbered_past : {X : Type 0} (known : List X) (n : ℕ) → length known < n → numbered known n ≡ None
+pub numbered_past : {X : Type 0} (known : List X) (n : ℕ) → length known < n → known_of_number known n ≡ None
 numbered_past known zero h = refl
 numbered_past known (suc n) h = slice_get_past known n (omega (arith, h))

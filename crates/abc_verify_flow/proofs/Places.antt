@@ -12,8 +12,8 @@ use Rattle.abc_verify_typing.specs.declared.state.State.{State}
 use Rattle.abc_verify_typing.proofs.Good.{good}
 use Rattle.abc_verify_typing.proofs.Member.{in_append, in_left, in_right, map_in}
 use Rattle.abc_verify_typing.proofs.Sized.{derivable_sized}
-use Rattle.abc_verify_typing.specs.Work.{at, flat, Landed}
-use Rattle.abc_verify_typing.specs.Rank.{layouts, rank, top}
+use Rattle.abc_verify_typing.specs.Work.{at, flat_state, Landed}
+use Rattle.abc_verify_typing.specs.Rank.{layouts, rank_of_state, top_rank}
 use Rattle.abc_verify_typing.proofs.Visits as visits
 use Rattle.abc_verify_typing.proofs.Visits.{Reaches}
 use Rattle.abc_verify_typing.proofs.Merging.{rank_most}
@@ -21,8 +21,8 @@ use Rattle.abc_verify_typing.proofs.Decides.{early_broken}
 use Rattle.abc_verify_typing.proofs.Turn.{advance_self, advance_trans, lands_on}
 use Rattle.abc_verify_flow.specs.Kept.{Clashes, Meets}
 use Rattle.abc_verify_flow.specs.declared.step.Met.TheVariants.{First, Joined, Same, Unequal}
-use Rattle.abc_verify_flow.specs.Waits.{IsAdded}
-use Rattle.abc_verify_flow.specs.Walking.{is_head, IsOpen, AllReach, AreReady, IsReady, MayGoOn, landing}
+use Rattle.abc_verify_flow.specs.Waits.{IsPlaceAdded}
+use Rattle.abc_verify_flow.specs.Walking.{is_head, IsTableOpen, AllReach, AreEntriesReady, IsStateReady, MayGoOn, landing}
 
 pub clash_broken : (p : LinkedFile) (m : Routine) (t : ℕ) (old : State) (r : VerifyRule) → Derivable p m t old → broken_early p m t old ≡ Some r → Refutes p m t r
 clash_broken p m t old r d e = Broken old r d (early_broken p m t old r e)
@@ -30,13 +30,13 @@ clash_broken p m t old r d e = Broken old r d (early_broken p m t old r e)
 pub clash_merge : (p : LinkedFile) (m : Routine) (t : ℕ) (old n : State) → Derivable p m t old → Derivable p m t n → (HasOneShape old n → ⊥) → broken_early p m t old ≡ None → Refutes p m t Merge
 clash_merge p m t old n d dn ne e = Unmerged old n d dn ne e
 
-pub is_derived : (p : LinkedFile) (m : Routine) (a : List (Option State)) (t : ℕ) (old : State) → IsOpen p m a → slice_get a t ≡ Some (Some old) → Derivable p m t old
-is_derived p m a t old o e = o.derived t old (ap flat e)
+pub is_derived : (p : LinkedFile) (m : Routine) (a : List (Option State)) (t : ℕ) (old : State) → IsTableOpen p m a → slice_get a t ≡ Some (Some old) → Derivable p m t old
+is_derived p m a t old o e = o.derived t old (ap flat_state e)
 
-pub is_derived_copy : (p : LinkedFile) (m : Routine) (a : List (Option State)) (t : ℕ) (old n : State) → IsOpen p m a → slice_get a t ≡ Some (Some old) → n ≡ old → Derivable p m t n
+pub is_derived_copy : (p : LinkedFile) (m : Routine) (a : List (Option State)) (t : ℕ) (old n : State) → IsTableOpen p m a → slice_get a t ≡ Some (Some old) → n ≡ old → Derivable p m t n
 is_derived_copy p m a t old n o e same = subst (λ (x : State). Derivable p m t x) (sym same) (is_derived p m a t old o e)
 
-reach_one : (p : LinkedFile) (m : Routine) (heads : List Bool) (t : ℕ) (n : State) (a c : List (Option State)) (v w : List ℕ) → IsOpen p m a → ((i : ℕ) → In i w → In i v ⊎ (i ≡ t)) → Reaches p m (rank (layouts p)) (top (layouts p) m) (is_head heads) t n a v c w → AllReach p m heads ((t, n) ∷ []) a v c w
+reach_one : (p : LinkedFile) (m : Routine) (heads : List Bool) (t : ℕ) (n : State) (a c : List (Option State)) (v w : List ℕ) → IsTableOpen p m a → ((i : ℕ) → In i w → In i v ⊎ (i ≡ t)) → Reaches p m (rank_of_state (layouts p)) (top_rank (layouts p) m) (is_head heads) t n a v c w → AllReach p m heads ((t, n) ∷ []) a v c w
 reach_one p m heads t n a c v w o only r = record { advances = r.advances; landed = landed; adds = λ i h. elim (only i h) [ inl k ↦ inl k | inr q ↦ inr (n, inl (ap (λ (k : ℕ). (k, n)) q)) ]; whole = record { long = r.advances.long ∙ o.long; derived = r.derived } }
   where
     landed : (k : ℕ) (u : State) → In {X = ℕ × State} (k, u) ((t, n) ∷ []) → Landed p c k u
@@ -48,49 +48,49 @@ module _ (p : LinkedFile) (m : Routine) (heads : List Bool) (a : List (Option St
   first_of ws i (inl q) = inr q
   first_of ws i (inr h) = inl h
 
-  pub merge_same : (old : State) → slice_get a t ≡ Some (Some old) → IsOpen p m a → StateLe p n old → AllReach p m heads ((t, n) ∷ []) a v a v
-  merge_same old e o le = reach_one p m heads t n a a v v o (λ i h. inl h) (visits.merge_same p m _ _ (is_head heads) a v t n old (ap flat e) o.derived le)
+  pub merge_same : (old : State) → slice_get a t ≡ Some (Some old) → IsTableOpen p m a → StateLe p n old → AllReach p m heads ((t, n) ∷ []) a v a v
+  merge_same old e o le = reach_one p m heads t n a a v v o (λ i h. inl h) (visits.merge_same p m _ _ (is_head heads) a v t n old (ap flat_state e) o.derived le)
 
-  pub merge_joined : (old joined : State) → slice_get a t ≡ Some (Some old) → IsOpen p m a → IsReady p m heads t n → IsJoinState p old n joined → rank (layouts p) joined < rank (layouts p) old → AllReach p m heads ((t, n) ∷ []) a v (set a t (Some joined)) (t ∷ v)
-  merge_joined old joined e o r j lt = reach_one p m heads t n a (set a t (Some joined)) v (t ∷ v) o (λ i h. first_of v i h) (visits.merge_joined p m _ _ (is_head heads) a v t n old joined (let q = o.long in let b = r.inside in omega arith) r.head (ap flat e) o.derived r.derived j lt)
+  pub merge_joined : (old joined : State) → slice_get a t ≡ Some (Some old) → IsTableOpen p m a → IsStateReady p m heads t n → IsJoinState p old n joined → rank_of_state (layouts p) joined < rank_of_state (layouts p) old → AllReach p m heads ((t, n) ∷ []) a v (set a t (Some joined)) (t ∷ v)
+  merge_joined old joined e o r j lt = reach_one p m heads t n a (set a t (Some joined)) v (t ∷ v) o (λ i h. first_of v i h) (visits.merge_joined p m _ _ (is_head heads) a v t n old joined (let q = o.long in let b = r.inside in omega arith) r.head (ap flat_state e) o.derived r.derived j lt)
 
-  pub merge_first : IsLinkedFile p → at a t ≡ None → IsOpen p m a → IsReady p m heads t n → AllReach p m heads ((t, n) ∷ []) a v (set a t (Some n)) (t ∷ v)
+  pub merge_first : IsLinkedFile p → at a t ≡ None → IsTableOpen p m a → IsStateReady p m heads t n → AllReach p m heads ((t, n) ∷ []) a v (set a t (Some n)) (t ∷ v)
   merge_first g e o r = reach_one p m heads t n a (set a t (Some n)) v (t ∷ v) o (λ i h. first_of v i h) (visits.merge_first p m _ _ (is_head heads) a v t n (let q = o.long in let b = r.inside in omega arith) r.head e (rank_most p (good p g) (layouts p) (omega arith) (omega arith) m n (derivable_sized p m t n r.derived)) o.derived r.derived)
 
 -- what waits, where a place was added to it
-added_in : (t : ℕ) (v w : List ℕ) → IsAdded t v w → (i : ℕ) → In i (t ∷ v) → In i w
+added_in : (t : ℕ) (v w : List ℕ) → IsPlaceAdded t v w → (i : ℕ) → In i (t ∷ v) → In i w
 added_in t v w e i (inl q) = subst (λ (x : ℕ). In x w) (sym q) e.has
 added_in t v w e i (inr h) = e.keeps i h
 
-reach_added : (p : LinkedFile) (m : Routine) (heads : List Bool) (xs : List (ℕ × State)) (a c : List (Option State)) (v w : List ℕ) (t : ℕ) → IsAdded t v w → AllReach p m heads xs a v c (t ∷ v) → AllReach p m heads xs a v c w
+reach_added : (p : LinkedFile) (m : Routine) (heads : List Bool) (xs : List (ℕ × State)) (a c : List (Option State)) (v w : List ℕ) (t : ℕ) → IsPlaceAdded t v w → AllReach p m heads xs a v c (t ∷ v) → AllReach p m heads xs a v c w
 reach_added p m heads xs a c v w t e r = record { advances = record { long = r.advances.long; rises = r.advances.rises; marks = marks; keeps = e.keeps; falls = let f = r.advances.falls in let k = e.most in omega arith }; landed = r.landed; adds = λ i h. r.adds i (e.only i h); whole = r.whole }
   where
     marks : (i : ℕ) → (at c i ≡ at a i) ⊎ (In i w × (is_head heads i ≡ true))
     marks i = elim (r.advances.marks i) [ inl same ↦ inl same | inr h ↦ inr (added_in t v w e i h.0, h.1) ]
 
 module _ (p : LinkedFile) (m : Routine) (heads : List Bool) (a c : List (Option State)) (v w : List ℕ) (t : ℕ) (n : State) where
-  pub met_first : IsLinkedFile p → Meets p a t n c First → IsAdded t v w → IsOpen p m a → IsReady p m heads t n → AllReach p m heads ((t, n) ∷ []) a v c w
+  pub met_first : IsLinkedFile p → Meets p a t n c First → IsPlaceAdded t v w → IsTableOpen p m a → IsStateReady p m heads t n → AllReach p m heads ((t, n) ∷ []) a v c w
   met_first g k e o r =
       subst (λ (x : List (Option State)). AllReach p m heads ((t, n) ∷ []) a v x w) (sym k.1)
       (reach_added p m heads ((t, n) ∷ []) a (set a t (Some n)) v w t e (merge_first p m heads a v t n g k.0 o r))
 
-  pub met_joined : Meets p a t n c Joined → IsAdded t v w → IsOpen p m a → IsReady p m heads t n → AllReach p m heads ((t, n) ∷ []) a v c w
+  pub met_joined : Meets p a t n c Joined → IsPlaceAdded t v w → IsTableOpen p m a → IsStateReady p m heads t n → AllReach p m heads ((t, n) ∷ []) a v c w
   met_joined k e o r =
       subst (λ (x : List (Option State)). AllReach p m heads ((t, n) ∷ []) a v x w) (sym k.is)
       (reach_added p m heads ((t, n) ∷ []) a (set a t (Some k.joined)) v w t e (merge_joined p m heads a v t n k.old k.joined k.known o r k.joins k.falls))
 
-  pub met_same : Meets p a t n c Same → IsOpen p m a → AllReach p m heads ((t, n) ∷ []) a v c v
+  pub met_same : Meets p a t n c Same → IsTableOpen p m a → AllReach p m heads ((t, n) ∷ []) a v c v
   met_same k o = subst (λ (x : List (Option State)). AllReach p m heads ((t, n) ∷ []) a v x v) (sym k.is) (merge_same p m heads a v t n k.old k.known o k.holds)
 
-  pub met_unequal : Meets p a t n c Unequal → IsOpen p m a → Clashes p m c t n
+  pub met_unequal : Meets p a t n c Unequal → IsTableOpen p m a → Clashes p m c t n
   met_unequal k o = record { old = k.old; known = ap (λ (x : List (Option State)). slice_get x t) k.is ∙ k.known; derived = is_derived p m a t k.old o k.known; unequal = k.holds }
 
-pub in_states : (p : LinkedFile) (m : Routine) (heads : List Bool) (a : List (Option State)) (t : ℕ) (n : State) → IsOpen p m a → IsReady p m heads t n → t < length a
+pub in_states : (p : LinkedFile) (m : Routine) (heads : List Bool) (a : List (Option State)) (t : ℕ) (n : State) → IsTableOpen p m a → IsStateReady p m heads t n → t < length a
 in_states p m heads a t n o r = let e = o.long in let h = r.inside in omega arith
 
 -- lists of states that land, one after the other
 module _ (p : LinkedFile) (m : Routine) (heads : List Bool) where
-  pub reach_none : (a : List (Option State)) (v : List ℕ) → IsOpen p m a → AllReach p m heads [] a v a v
+  pub reach_none : (a : List (Option State)) (v : List ℕ) → IsTableOpen p m a → AllReach p m heads [] a v a v
   reach_none a v o = record { advances = advance_self p _ _ (is_head heads) a v; landed = λ t n h. absurd h; adds = λ i h. inl h; whole = o }
 
   pub reach_more : (xs ys : List (ℕ × State)) (a c e : List (Option State)) (v w u : List ℕ) → AllReach p m heads xs a v c w → AllReach p m heads ys c w e u → AllReach p m heads (xs ++ ys) a v e u
@@ -133,7 +133,7 @@ pub filter_left : {X : Type 0} (f : X → Bool) (xs : List X) (k : ℕ) (d : X) 
 filter_left {X} f xs k d h e = filter_next f xs k d h ∙ ap (λ (b : Bool). filter f (take k xs) ++ cond b (get_or xs k d ∷ []) []) e ∙ append-nil (filter f (take k xs))
 
 module _ (p : LinkedFile) (m : Routine) (heads : List Bool) {X : Type 0} (f : X → ℕ × State) where
-  pub each_ready : (xs : List X) (k : ℕ) (d : X) → AreReady p m heads (map f xs) → k < length xs → IsReady p m heads (f (get_or xs k d)).0 (f (get_or xs k d)).1
+  pub each_ready : (xs : List X) (k : ℕ) (d : X) → AreEntriesReady p m heads (map f xs) → k < length xs → IsStateReady p m heads (f (get_or xs k d)).0 (f (get_or xs k d)).1
   each_ready xs k d r h = r _ _ (map_in f (get_or xs k d) xs (in_at xs k d h))
 
   pub each_step : (xs : List X) (k : ℕ) (d : X) (a c e : List (Option State)) (v w u : List ℕ) → k < length xs → AllReach p m heads (map f (take k xs)) a v c w → AllReach p m heads (f (get_or xs k d) ∷ []) c w e u → AllReach p m heads (map f (take (k + 1) xs)) a v e u
@@ -145,7 +145,7 @@ module _ (p : LinkedFile) (m : Routine) (heads : List Bool) {X : Type 0} (f : X 
 
 module _ (p : LinkedFile) (m : Routine) (heads : List Bool) where
   -- a head that a step leads to
-  pub head_ready : (i : ℕ) (n : State) → MayGoOn p m i n → is_head heads (i + 1) ≡ true → IsReady p m heads (i + 1) n
+  pub head_ready : (i : ℕ) (n : State) → MayGoOn p m i n → is_head heads (i + 1) ≡ true → IsStateReady p m heads (i + 1) n
   head_ready i n h on = let e : suc i ≡ i + 1 = omega arith in record { derived = subst (λ k. Derivable p m k n) e h.derived; inside = subst (λ k. k < length m.code) e h.inside; head = on }
 
   pub arrived_head : (i : ℕ) (n : State) (next : Bool) (a c : List (Option State)) (v w : List ℕ) → next ≡ true → AllReach p m heads ((i + 1, n) ∷ []) a v c w → AllReach p m heads (map (landing n) (cond next (suc i ∷ []) [])) a v c w
@@ -153,20 +153,20 @@ module _ (p : LinkedFile) (m : Routine) (heads : List Bool) where
       let e : i + 1 ≡ suc i = omega arith in
       subst (λ (b : Bool). AllReach p m heads (map (landing n) (cond b (suc i ∷ []) [])) a v c w) (sym on) (subst (λ (k : ℕ). AllReach p m heads ((k, n) ∷ []) a v c w) e r)
 
-  pub arrived_not : (i : ℕ) (n : State) (next : Bool) (a : List (Option State)) (v : List ℕ) → next ≡ false → IsOpen p m a → AllReach p m heads (map (landing n) (cond next (suc i ∷ []) [])) a v a v
+  pub arrived_not : (i : ℕ) (n : State) (next : Bool) (a : List (Option State)) (v : List ℕ) → next ≡ false → IsTableOpen p m a → AllReach p m heads (map (landing n) (cond next (suc i ∷ []) [])) a v a v
   arrived_not i n next a v off o = subst (λ (b : Bool). AllReach p m heads (map (landing n) (cond b (suc i ∷ []) [])) a v a v) (sym off) (reach_none p m heads a v o)
 
-  pub one_ready : (s : State) (t : ℕ) → AreReady p m heads (map (landing s) (t ∷ [])) → IsReady p m heads t s
+  pub one_ready : (s : State) (t : ℕ) → AreEntriesReady p m heads (map (landing s) (t ∷ [])) → IsStateReady p m heads t s
   one_ready s t r = r t s (inl refl)
 
-  pub first_ready : (s : State) (t : ℕ) (ts : List ℕ) → AreReady p m heads (map (landing s) (t ∷ ts)) → IsReady p m heads t s
+  pub first_ready : (s : State) (t : ℕ) (ts : List ℕ) → AreEntriesReady p m heads (map (landing s) (t ∷ ts)) → IsStateReady p m heads t s
   first_ready s t ts r = r t s (inl refl)
 
-  pub rest_ready : (s : State) (t : ℕ) (ts us : List ℕ) → us ≡ ts → AreReady p m heads (map (landing s) (t ∷ ts)) → AreReady p m heads (map (landing s) us)
-  rest_ready s t ts us e r = subst (λ (xs : List ℕ). AreReady p m heads (map (landing s) xs)) (sym e) (λ k u h. r k u (inr h))
+  pub rest_ready : (s : State) (t : ℕ) (ts us : List ℕ) → us ≡ ts → AreEntriesReady p m heads (map (landing s) (t ∷ ts)) → AreEntriesReady p m heads (map (landing s) us)
+  rest_ready s t ts us e r = subst (λ (xs : List ℕ). AreEntriesReady p m heads (map (landing s) xs)) (sym e) (λ k u h. r k u (inr h))
 
   pub reach_rest : (s : State) (t : ℕ) (ts us : List ℕ) (a c e : List (Option State)) (v w x : List ℕ) → us ≡ ts → AllReach p m heads (map (landing s) (t ∷ [])) a v c w → AllReach p m heads (map (landing s) us) c w e x → AllReach p m heads (map (landing s) (t ∷ ts)) a v e x
   reach_rest s t ts us a c e v w x is r q = reach_more p m heads ((t, s) ∷ []) (map (landing s) ts) a c e v w x r (subst (λ (xs : List ℕ). AllReach p m heads (map (landing s) xs) c w e x) is q)
 
-  pub reach_nowhere : (s : State) (ts : List ℕ) (a : List (Option State)) (v : List ℕ) → ts ≡ [] → IsOpen p m a → AllReach p m heads (map (landing s) ts) a v a v
+  pub reach_nowhere : (s : State) (ts : List ℕ) (a : List (Option State)) (v : List ℕ) → ts ≡ [] → IsTableOpen p m a → AllReach p m heads (map (landing s) ts) a v a v
   reach_nowhere s ts a v e o = subst (λ (xs : List ℕ). AllReach p m heads (map (landing s) xs) a v a v) (sym e) (reach_none p m heads a v o)

@@ -9,7 +9,7 @@ use Rattle.abc_link_names.proofs.Order.{kind_self}
 use Rattle.abc_verify_typing.specs.Lists.{Each2}
 use Rattle.abc_verify_typing.specs.Typing.{IsJoinState}
 use Rattle.abc_verify_typing.specs.declared.catch.Catch.{Catch}
-use Rattle.abc_verify_flow.specs.Walking.{Noted, NotedAt, Wrote, caught_with}
+use Rattle.abc_verify_flow.specs.Walking.{NotesWritten, NotedAt, Wrote, caught_with}
 use Rattle.abc_verify_flow.specs.declared.step.Written.{Written}
 use Rattle.abc_verify_flow.specs.declared.step.Written.TheVariants as writes
 
@@ -86,7 +86,7 @@ get_other (x ∷ xs) zero (suc j) k ne = refl
 get_other (x ∷ xs) (suc i) zero k ne = refl
 get_other (x ∷ xs) (suc i) (suc j) k ne = get_other xs i j k (λ e. ne (ap suc e))
 
-pub noted_joins : (p : LinkedFile) (w : Written) (xs ys js zs : List Kind) → Wrote w xs ys → Each2 (IsAtMost p) xs js → Noted p w js ys zs → Joins p js ys zs
+pub noted_joins : (p : LinkedFile) (w : Written) (xs ys js zs : List Kind) → Wrote w xs ys → Each2 (IsAtMost p) xs js → NotesWritten p w js ys zs → Joins p js ys zs
 noted_joins p writes.Nothing xs ys js zs wrote most noted = subst (λ (us : List Kind). Joins p js us zs) (sym wrote) (subst (λ (us : List Kind). Joins p js xs us) (sym noted) (joins_self p xs js most))
 noted_joins p (writes.One j) xs ys js zs wrote most noted =
     subst (λ (us : List Kind). Joins p js us zs) (sym wrote.is) (subst (λ (us : List Kind). Joins p js (set xs j wrote.kind) us) (sym noted.is) (joins_set p js xs js j wrote.kind noted.kind (joins_self p xs js most) one))

@@ -11,7 +11,7 @@ use Rattle.std.proofs.lemmas.Cmp.{ranked}
 use Rattle.std.proofs.lemmas.List.Elements.{All-head, All-tail}
 use Rattle.std.proofs.lemmas.Map.Lookups.{exact_unsigned}
 use Rattle.abc_verify_typing.specs.Typing.{In}
-use Rattle.abc_verify_flow.specs.Waits.{IsAdded, IsTaken}
+use Rattle.abc_verify_flow.specs.Waits.{IsPlaceAdded, IsLowestTaken}
 
 -- ---- a place is put among others
 
@@ -55,9 +55,9 @@ key_most x (y ∷ xs) = go (key_most x xs) (nat_cmp x y)
     go rec Equal = omega arith
     go rec Greater = omega (arith, rec)
 
-pub added : (place : ℕ) (xs ys : List ℕ) → ys ≡ insert_key nat_cmp xs place → IsAdded place xs ys
+pub added : (place : ℕ) (xs ys : List ℕ) → ys ≡ insert_key nat_cmp xs place → IsPlaceAdded place xs ys
 added place xs ys e =
-    subst (λ (zs : List ℕ). IsAdded place xs zs) (sym e)
+    subst (λ (zs : List ℕ). IsPlaceAdded place xs zs) (sym e)
     (record { has = key_in place xs; keeps = λ i h. key_keeps place xs i h; only = λ i h. key_only place xs i h; most = key_most place xs })
 
 -- ---- the lowest is taken
@@ -67,7 +67,7 @@ all_in P [] a i h = absurd h
 all_in P (x ∷ xs) a i (inl q) = subst P (sym q) (All-head P x xs a)
 all_in P (x ∷ xs) a i (inr h) = all_in P xs (All-tail P x xs a) i h
 
-pub taken : (place : ℕ) (xs ys : List ℕ) → xs ≡ place ∷ ys → All (IsLtBy nat_cmp place) ys → IsTaken place xs ys
+pub taken : (place : ℕ) (xs ys : List ℕ) → xs ≡ place ∷ ys → All (IsLtBy nat_cmp place) ys → IsLowestTaken place xs ys
 taken place xs ys e above = record { is = e; lowest = λ i h. ranked place i Less (sym (all_in (IsLtBy nat_cmp place) ys above i h)) }
 
 pub nothing : {X : Type 0} (xs : List X) → length xs ≡ 0 → [] ≡ xs
@@ -78,6 +78,6 @@ none_waits : (xs : List ℕ) → (0 < length xs → ⊥) → xs ≡ []
 none_waits [] h = refl
 none_waits (x ∷ xs) h = absurd (h (omega arith))
 
-pub popped : (r : Option ℕ) (xs ys : List ℕ) → IfSome r (λ k. xs ≡ k ∷ ys) → IfSome r (λ k. All (IsLtBy nat_cmp k) ys) → (IsSome r ↔ (0 < length xs)) → MatchOption r (xs ≡ []) (λ k. IsTaken k xs ys)
+pub popped : (r : Option ℕ) (xs ys : List ℕ) → IfSome r (λ k. xs ≡ k ∷ ys) → IfSome r (λ k. All (IsLtBy nat_cmp k) ys) → (IsSome r ↔ (0 < length xs)) → MatchOption r (xs ≡ []) (λ k. IsLowestTaken k xs ys)
 popped (Some k) xs ys e above some = taken k xs ys e above
 popped None xs ys e above some = none_waits xs (λ lt. let z : IsSome {T = ℕ} None = some.1 lt in absurd cc)

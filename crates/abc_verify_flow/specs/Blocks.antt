@@ -21,20 +21,20 @@ pub record AreAlone (blocks : List Block) (end : ℕ) : Type 0 where
   pub alone : (i j : ℕ) (b c : Block) → i ≢ j → slice_get blocks i ≡ Some b → slice_get blocks j ≡ Some c → b.is_shared ≡ false → AreDisjoint b.span c.span
 
 -- the kinds of the block of an index are those of another too
-pub record IsMarked (old new : List Block) (i : ℕ) (s : Span) : Type 0 where
+pub record IsBlockMarked (old new : List Block) (i : ℕ) (s : Span) : Type 0 where
   pub block : Block
   pub was : slice_get old i ≡ Some block
   pub span : block.span ≡ s
   pub set_in : new ≡ set old i (record { span = s; is_shared = true })
 
 -- a block has so many kinds, and no other lies there
-pub record IsFree (b : Block) (n : ℕ) : Type 0 where
+pub record IsBlockFree (b : Block) (n : ℕ) : Type 0 where
   pub count : n ≡ b.span.count
   pub alone : b.is_shared ≡ false
 
 -- ---- locals as blocks
 
 -- the first blocks of some kinds, so many, of which each has 64 as far as there are
-abbrev pub cut : ℕ → List Kind → List (List Kind)
-cut zero kinds = []
-cut (suc n) kinds = take 64 kinds ∷ cut n (drop 64 kinds)
+abbrev pub blocks_of_64 : ℕ → List Kind → List (List Kind)
+blocks_of_64 zero kinds = []
+blocks_of_64 (suc n) kinds = take 64 kinds ∷ blocks_of_64 n (drop 64 kinds)

@@ -13,7 +13,7 @@ use Rattle.abc_verify_typing.specs.Typing.{In, IsJoinState}
 use Rattle.abc_verify_typing.specs.declared.catch.Catch.{Catch}
 use Rattle.abc_verify_typing.specs.declared.state.State.{State}
 use Rattle.abc_verify_typing.specs.Work.{at, Landed}
-use Rattle.abc_verify_flow.specs.Walking.{AreTold, IsOpen, IsReady, Moves, caught_with}
+use Rattle.abc_verify_flow.specs.Walking.{AreTold, IsTableOpen, IsStateReady, MovesState, caught_with}
 use Rattle.abc_verify_flow.specs.declared.handled.Handled.{Handled}
 
 abbrev pub range_of : Catch → Range
@@ -35,13 +35,13 @@ pub record HandlerAt (t : Stabs) (handlers : List Catch) (node : ℕ) (h : Catch
 
 -- a handler gets a state where there are these locals, and that is derived
 abbrev pub IsReadyFor : LinkedFile → Routine → List Bool → List Kind → Catch → Type 0
-IsReadyFor p m heads locals h = IsReady p m heads h.target (caught_with locals h).1
+IsReadyFor p m heads locals h = IsStateReady p m heads h.target (caught_with locals h).1
 
 abbrev pub IsTold : LinkedFile → List (Option State) → List Kind → Catch → Type 0
 IsTold p states locals h = Landed p states h.target (caught_with locals h).1
 
 -- the handlers at each node were told what is kept of it
-pub record AreKept (p : LinkedFile) (m : Routine) (heads : List Bool) (t : Stabs) (last states : List (Option State)) : Type 0 where
+pub record AreHandlersTold (p : LinkedFile) (m : Routine) (heads : List Bool) (t : Stabs) (last states : List (Option State)) : Type 0 where
   pub long : length last ≡ 2 * leaves t
   pub ready : (node : ℕ) (s : State) (h : Catch) → at last node ≡ Some s → HandlerAt t m.handlers node h → IsReadyFor p m heads s.locals h
   pub told : (node : ℕ) (s : State) (h : Catch) → at last node ≡ Some s → HandlerAt t m.handlers node h → IsTold p states s.locals h
@@ -53,25 +53,25 @@ Raises p old seen (Some now) = (now.locals ≡ seen.locals) ⊎ ((s : State) × 
 
 -- the handler of a number, if there is one, got these locals
 pub record HasCaughtOne (p : LinkedFile) (m : Routine) (heads : List Bool) (number : ℕ) (locals : List Kind) (a : List (Option State)) (v : List ℕ) (c : List (Option State)) (w : List ℕ) : Type 0 where
-  pub advances : Moves p m heads a v c w
+  pub advances : MovesState p m heads a v c w
   pub adds : (i : ℕ) → In i w → In i v ⊎ ((h : Catch) × (slice_get m.handlers number ≡ Some h) × (i ≡ h.target))
-  pub whole : IsOpen p m c
+  pub whole : IsTableOpen p m c
   pub told : (h : Catch) → slice_get m.handlers number ≡ Some h → IsTold p c locals h
 
 -- all handlers at a node got these locals
 pub record HasCaught (p : LinkedFile) (m : Routine) (heads : List Bool) (t : Stabs) (node : ℕ) (locals : List Kind) (a : List (Option State)) (v : List ℕ) (c : List (Option State)) (w : List ℕ) : Type 0 where
-  pub advances : Moves p m heads a v c w
+  pub advances : MovesState p m heads a v c w
   pub adds : (i : ℕ) → In i w → In i v ⊎ ((h : Catch) × HandlerAt t m.handlers node h × (i ≡ h.target))
-  pub whole : IsOpen p m c
+  pub whole : IsTableOpen p m c
   pub told : (h : Catch) → HandlerAt t m.handlers node h → IsTold p c locals h
 
 pub record HasToldAt (p : LinkedFile) (m : Routine) (heads : List Bool) (t : Stabs) (node : ℕ) (locals : List Kind) (a : List (Option State)) (v : List ℕ) (last c : List (Option State)) (w : List ℕ) : Type 0 where
   pub caught : HasCaught p m heads t node locals a v c w
-  pub kept : AreKept p m heads t last c
+  pub kept : AreHandlersTold p m heads t last c
 
 pub record HasTold (p : LinkedFile) (m : Routine) (heads : List Bool) (t : Stabs) (place : ℕ) (locals : List Kind) (a : List (Option State)) (v : List ℕ) (last c : List (Option State)) (w : List ℕ) : Type 0 where
-  pub advances : Moves p m heads a v c w
+  pub advances : MovesState p m heads a v c w
   pub adds : (i : ℕ) → In i w → In i v ⊎ ((h : Catch) × In h (covering m place) × (i ≡ h.target))
-  pub whole : IsOpen p m c
+  pub whole : IsTableOpen p m c
   pub told : AreTold p c (covering m place) locals
-  pub kept : AreKept p m heads t last c
+  pub kept : AreHandlersTold p m heads t last c

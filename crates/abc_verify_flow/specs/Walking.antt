@@ -5,15 +5,15 @@ use Rattle.abc_link_names.specs.Linked.{LinkedFile}
 use Rattle.abc_link_names.specs.declared.types.Kind.{Kind}
 use Rattle.abc_verify_typing.specs.Instructions.{targets}
 use Rattle.abc_file_types.specs.declared.code.Instr.{Instr}
-use Rattle.abc_verify_typing.specs.Effects.{covering, caught}
+use Rattle.abc_verify_typing.specs.Effects.{covering, caught_state}
 use Rattle.abc_verify_typing.specs.Lists.{Each2}
 use Rattle.abc_verify_typing.specs.Routines.{Routine}
 use Rattle.abc_verify_typing.specs.Rules.{after_instr, broken}
 use Rattle.abc_verify_typing.specs.Typing.{StateLe, HasOneShape, IsFine, In, Follows, IsJoinState, IsTyping, Derivable, Refutes}
 use Rattle.abc_verify_typing.specs.declared.catch.Catch.{Catch}
 use Rattle.abc_verify_typing.specs.declared.state.State.{State}
-use Rattle.abc_verify_typing.specs.Work.{at, Landed, Runs, Advances, AreDerived, IsUnderWay, total, walked}
-use Rattle.abc_verify_typing.specs.Rank.{layouts, rank, top}
+use Rattle.abc_verify_typing.specs.Work.{at, Landed, RunsOn, Advances, AreDerived, IsUnderWay, total_rank, state_on_walk}
+use Rattle.abc_verify_typing.specs.Rank.{layouts, rank_of_state, top_rank}
 use Rattle.abc_verify_flow.specs.declared.step.Step.{Step}
 use Rattle.abc_verify_flow.specs.declared.step.Trial.{Trial}
 use Rattle.abc_verify_flow.specs.declared.step.Trial.TheVariants as trials
@@ -26,12 +26,12 @@ use Rattle.abc_verify_flow.specs.declared.step.Refusal.TheVariants.{Refused, NoM
 use Rattle.abc_verify_flow.specs.declared.step.Onward.{Onward}
 use Rattle.abc_verify_flow.specs.declared.step.Onward.TheVariants.{Stops, GoesOn}
 
-abbrev pub targets_in : Option Instr → List ℕ
-targets_in None = []
-targets_in (Some instr) = targets instr
+abbrev pub targets_of_instr : Option Instr → List ℕ
+targets_of_instr None = []
+targets_of_instr (Some instr) = targets instr
 
 abbrev pub targets_at : Routine → ℕ → List ℕ
-targets_at m i = targets_in (slice_get m.code i)
+targets_at m i = targets_of_instr (slice_get m.code i)
 
 -- where a step leads
 abbrev pub leads_of : Routine → ℕ → Step → List ℕ
@@ -69,7 +69,7 @@ IsTriedAt p m i old new (trials.Steps w) = IsFine p m i old × Steps p m i old n
 -- Of merging the state n into `old`: n is at most `old`; or j is their join, and can rise less far; or they have not one shape.
 abbrev pub MergesTo : LinkedFile → State → State → State → Merged → Type 0
 MergesTo p old n j Same = StateLe p n old
-MergesTo p old n j Joined = IsJoinState p old n j × (rank (layouts p) j < rank (layouts p) old)
+MergesTo p old n j Joined = IsJoinState p old n j × (rank_of_state (layouts p) j < rank_of_state (layouts p) old)
 MergesTo p old n j Unequal = HasOneShape old n → ⊥
 
 -- If the answer is a refusal, its rule refutes the method at its index.
@@ -93,7 +93,7 @@ pub data BeginsWalk (m : Routine) (t : ℕ) : Type 0 where
   AtHandler : (h : Catch) → In h m.handlers → (t ≡ h.target) ⊎ ((t ≡ h.from) ⊎ (t ≡ h.to)) → BeginsWalk m t
 
 -- the heads are the places of the code where a walk begins, and no other
-pub record AreHeads (m : Routine) (heads : List Bool) : Type 0 where
+pub record AreWalkHeads (m : Routine) (heads : List Bool) : Type 0 where
   pub first : is_head heads 0 ≡ true
   pub jumps : (i t : ℕ) → In t (targets_at m i) → t < length m.code → is_head heads t ≡ true
   pub handlers : (h : Catch) → In h m.handlers → h.target < length m.code → is_head heads h.target ≡ true
@@ -101,11 +101,11 @@ pub record AreHeads (m : Routine) (heads : List Bool) : Type 0 where
   pub ends : (h : Catch) → In h m.handlers → h.to < length m.code → is_head heads h.to ≡ true
   pub only : (t : ℕ) → is_head heads t ≡ true → BeginsWalk m t
 
-abbrev pub Moves : LinkedFile → Routine → List Bool → List (Option State) → List ℕ → List (Option State) → List ℕ → Type 0
-Moves p m heads a v c w = Advances p (rank (layouts p)) (top (layouts p) m) (is_head heads) a v c w
+abbrev pub MovesState : LinkedFile → Routine → List Bool → List (Option State) → List ℕ → List (Option State) → List ℕ → Type 0
+MovesState p m heads a v c w = Advances p (rank_of_state (layouts p)) (top_rank (layouts p) m) (is_head heads) a v c w
 
 -- what may be merged: the table is whole, and what it has is derived
-pub record IsOpen (p : LinkedFile) (m : Routine) (states : List (Option State)) : Type 0 where
+pub record IsTableOpen (p : LinkedFile) (m : Routine) (states : List (Option State)) : Type 0 where
   pub long : length states ≡ length m.code
   pub derived : AreDerived p m states
 
@@ -120,19 +120,19 @@ AddsBehind m place v c w = (i : ℕ) → In i w → In i v ⊎ ((s : State) × (
 
 -- a state has landed at each of some places, nothing else waits anew, and all that was known goes on
 pub record AllReach (p : LinkedFile) (m : Routine) (heads : List Bool) (xs : List (ℕ × State)) (a : List (Option State)) (v : List ℕ) (c : List (Option State)) (w : List ℕ) : Type 0 where
-  pub advances : Moves p m heads a v c w
+  pub advances : MovesState p m heads a v c w
   pub landed : (t : ℕ) (n : State) → In (t, n) xs → Landed p c t n
   pub adds : (i : ℕ) → In i w → In i v ⊎ ((n : State) × In (i, n) xs)
-  pub whole : IsOpen p m c
+  pub whole : IsTableOpen p m c
 
 -- what may come next
-pub record IsReady (p : LinkedFile) (m : Routine) (heads : List Bool) (t : ℕ) (n : State) : Type 0 where
+pub record IsStateReady (p : LinkedFile) (m : Routine) (heads : List Bool) (t : ℕ) (n : State) : Type 0 where
   pub derived : Derivable p m t n
   pub inside : t < length m.code
   pub head : is_head heads t ≡ true
 
-abbrev pub AreReady : LinkedFile → Routine → List Bool → List (ℕ × State) → Type 0
-AreReady p m heads xs = (t : ℕ) (n : State) → In (t, n) xs → IsReady p m heads t n
+abbrev pub AreEntriesReady : LinkedFile → Routine → List Bool → List (ℕ × State) → Type 0
+AreEntriesReady p m heads xs = (t : ℕ) (n : State) → In (t, n) xs → IsStateReady p m heads t n
 
 -- the next place may be reached
 pub record MayGoOn (p : LinkedFile) (m : Routine) (i : ℕ) (n : State) : Type 0 where
@@ -155,10 +155,10 @@ pub record NotedTwo (p : LinkedFile) (old locals : List Kind) (i j : ℕ) (new :
   pub first : NotedAt p old locals i between
   pub second : NotedAt p between locals j new
 
-abbrev pub Noted : LinkedFile → Written → List Kind → List Kind → List Kind → Type 0
-Noted p writes.Nothing old locals new = new ≡ old
-Noted p (writes.One j) old locals new = NotedAt p old locals j new
-Noted p (writes.Two i j) old locals new = NotedTwo p old locals i j new
+abbrev pub NotesWritten : LinkedFile → Written → List Kind → List Kind → List Kind → Type 0
+NotesWritten p writes.Nothing old locals new = new ≡ old
+NotesWritten p (writes.One j) old locals new = NotedAt p old locals j new
+NotesWritten p (writes.Two i j) old locals new = NotedTwo p old locals i j new
 
 -- what is seen as a walk begins: the locals, if a handler covers it
 abbrev pub IsSeenFirst : List Catch → List Kind → List Kind → Type 0
@@ -171,11 +171,11 @@ AreSeen p cover locals seen = (h : Catch) → In h cover → Each2 (IsAtMost p) 
 -- what was seen so far: nothing but the locals as the walk begins, or what handlers may get, and a step after that
 pub data IsPending (p : LinkedFile) (m : Routine) (heads : List Bool) (cover : List Catch) (seen locals : List Kind) (w : Written) : Type 0 where
   First : IsSeenFirst cover seen locals → w ≡ writes.Nothing → IsPending p m heads cover seen locals w
-  Later : (old : List Kind) → AreReady p m heads (map (caught_with seen) cover) → AreSeen p cover old seen → Wrote w old locals → IsPending p m heads cover seen locals w
+  Later : (old : List Kind) → AreEntriesReady p m heads (map (caught_with seen) cover) → AreSeen p cover old seen → Wrote w old locals → IsPending p m heads cover seen locals w
 
 -- what handlers may get, and the locals are at most that
 pub record IsSeen (p : LinkedFile) (m : Routine) (heads : List Bool) (cover : List Catch) (seen locals : List Kind) : Type 0 where
-  pub ready : AreReady p m heads (map (caught_with seen) cover)
+  pub ready : AreEntriesReady p m heads (map (caught_with seen) cover)
   pub most : AreSeen p cover locals seen
 
 abbrev pub AreTold : LinkedFile → List (Option State) → List Catch → List Kind → Type 0
@@ -191,14 +191,14 @@ ArrivesAt p m heads step i n a v c w (GoesOn written) = (step.next ≡ true) × 
 -- a walk ends, but for handlers
 pub record IsStopped (p : LinkedFile) (m : Routine) (i : ℕ) (s : State) (c : List (Option State)) : Type 0 where
   pub fine : IsFine p m i s
-  pub follows : (t : ℕ) (u : State) → Follows p m i s t u → Landed p c t u ⊎ In (t, u) (map (caught s) (covering m i))
+  pub follows : (t : ℕ) (u : State) → Follows p m i s t u → Landed p c t u ⊎ In (t, u) (map (caught_state s) (covering m i))
 
 -- a walk goes on to the next place
 pub record IsOnward (p : LinkedFile) (m : Routine) (heads : List Bool) (i : ℕ) (s n : State) (w : Written) (c : List (Option State)) : Type 0 where
   pub fine : IsFine p m i s
   pub inner : is_head heads (suc i) ≡ false
   pub inside : suc i < length m.code
-  pub follows : (t : ℕ) (u : State) → Follows p m i s t u → Landed p c t u ⊎ (((t ≡ suc i) × (u ≡ n)) ⊎ In (t, u) (map (caught s) (covering m i)))
+  pub follows : (t : ℕ) (u : State) → Follows p m i s t u → Landed p c t u ⊎ (((t ≡ suc i) × (u ≡ n)) ⊎ In (t, u) (map (caught_state s) (covering m i)))
   pub derived : Derivable p m (suc i) n
   pub wrote : Wrote w s.locals n.locals
 
@@ -207,45 +207,45 @@ PassesTo p m heads i s n c Stops = IsStopped p m i s c
 PassesTo p m heads i s n c (GoesOn w) = IsOnward p m heads i s n w c
 
 pub record Passed (p : LinkedFile) (m : Routine) (heads : List Bool) (cover : List Catch) (i : ℕ) (s n : State) (old seen : List Kind) (a : List (Option State)) (v : List ℕ) (c : List (Option State)) (w : List ℕ) (o : Onward) : Type 0 where
-  pub advances : Moves p m heads a v c w
+  pub advances : MovesState p m heads a v c w
   pub adds : AddsBehind m i v c w
-  pub whole : IsOpen p m c
+  pub whole : IsTableOpen p m c
   pub seen_is : IsSeen p m heads cover seen s.locals
   pub rises : AreSeen p cover old seen
   pub passes : PassesTo p m heads i s n c o
 
 -- a walk, from a head on
 pub record IsWalking (p : LinkedFile) (m : Routine) (heads : List Bool) (cover : List Catch) (start : ℕ) (s : State) (i : ℕ) (n : State) (seen : List Kind) (w : Written) (a : List (Option State)) (v : List ℕ) (c : List (Option State)) (x : List ℕ) : Type 0 where
-  pub advances : Moves p m heads a v c x
+  pub advances : MovesState p m heads a v c x
   pub adds : AddsBehind m start v c x
-  pub whole : IsOpen p m c
+  pub whole : IsTableOpen p m c
   pub behind : start ≤ i
   pub inside : i < length m.code
   pub derived : Derivable p m i n
   pub covers : cover ≡ covering m i
   pub pending : IsPending p m heads cover seen n.locals w
-  pub back : (d : List (Option State)) (y : List ℕ) → Moves p m heads c x d y → AreTold p d cover seen → Runs p m (is_head heads) d i n → Runs p m (is_head heads) d start s
+  pub back : (d : List (Option State)) (y : List ℕ) → MovesState p m heads c x d y → AreTold p d cover seen → RunsOn p m (is_head heads) d i n → RunsOn p m (is_head heads) d start s
 
 -- all but what handlers get
 pub record HasPaced (p : LinkedFile) (m : Routine) (heads : List Bool) (cover : List Catch) (start : ℕ) (s : State) (seen : List Kind) (a : List (Option State)) (v : List ℕ) (c : List (Option State)) (w : List ℕ) : Type 0 where
-  pub advances : Moves p m heads a v c w
+  pub advances : MovesState p m heads a v c w
   pub adds : AddsBehind m start v c w
-  pub whole : IsOpen p m c
-  pub ready : AreReady p m heads (map (caught_with seen) cover)
-  pub runs : (d : List (Option State)) (y : List ℕ) → Moves p m heads c w d y → AreTold p d cover seen → Runs p m (is_head heads) d start s
+  pub whole : IsTableOpen p m c
+  pub ready : AreEntriesReady p m heads (map (caught_with seen) cover)
+  pub runs : (d : List (Option State)) (y : List ℕ) → MovesState p m heads c w d y → AreTold p d cover seen → RunsOn p m (is_head heads) d start s
 
 pub record HasWalked (p : LinkedFile) (m : Routine) (heads : List Bool) (start : ℕ) (s : State) (a : List (Option State)) (v : List ℕ) (c : List (Option State)) (w : List ℕ) : Type 0 where
-  pub advances : Moves p m heads a v c w
+  pub advances : MovesState p m heads a v c w
   pub adds : AddsBehind m start v c w
-  pub whole : IsOpen p m c
-  pub runs : Runs p m (is_head heads) c start s
+  pub whole : IsTableOpen p m c
+  pub runs : RunsOn p m (is_head heads) c start s
 
 -- one head was taken from the work
 pub record HasTurned (p : LinkedFile) (m : Routine) (heads : List Bool) (place : ℕ) (a : List (Option State)) (v : List ℕ) (c : List (Option State)) (w : List ℕ) : Type 0 where
   pub under_way : IsUnderWay p m (is_head heads) c w
-  pub advances : Moves p m heads a v c w
+  pub advances : MovesState p m heads a v c w
   pub adds : AddsBehind m place v c w
-  pub falls : total (rank (layouts p)) (top (layouts p) m) c + length w ≤ total (rank (layouts p)) (top (layouts p) m) a + length v
+  pub falls : total_rank (rank_of_state (layouts p)) (top_rank (layouts p) m) c + length w ≤ total_rank (rank_of_state (layouts p)) (top_rank (layouts p) m) a + length v
 
 -- ---- how many walks there are
 
@@ -266,6 +266,6 @@ count_known (Some s ∷ os) = suc (count_known os)
 
 -- the states at the heads make a typing; from each head at most once more was walked than its state rose, and once where nothing leads back
 pub record IsSettled (p : LinkedFile) (m : Routine) (heads : List Bool) (walks : ℕ) (states : List (Option State)) : Type 0 where
-  pub typing : IsTyping p m (walked p m (is_head heads) states)
-  pub few : walks ≤ most_walks (rank (layouts p)) (top (layouts p) m) states
+  pub typing : IsTyping p m (state_on_walk p m (is_head heads) states)
+  pub few : walks ≤ most_walks (rank_of_state (layouts p)) (top_rank (layouts p) m) states
   pub once : IsForward m → walks ≤ count_known states

@@ -1,5 +1,5 @@
 ghost use Rattle.std.specs.Prelude.{◌≡◌, ◌++◌, ◌∷◌, ◌<◌, [], Some, length, set, slice_get, IfOk, IsTrue, OnErr, OnOk};
-ghost use Rattle.abc_verify_flow.specs.Blocks.{AreAlone, IsFree, IsMarked};
+ghost use Rattle.abc_verify_flow.specs.Blocks.{AreAlone, IsBlockFree, IsBlockMarked};
 ghost use Rattle.abc_verify_flow.specs.Kept.{IsSpan, part};
 
 use crate::below::are_same;
@@ -49,7 +49,7 @@ fn block_at(blocks: &Vec<Block>, index: usize) -> Block
 /// The kinds of the block of a number are those of another too. The answer is where they lie.
 fn mark_shared(blocks: &mut Vec<Block>, index: usize) -> Span
     requires { index < length blocks.old.items }
-    ensures { IsMarked blocks.old.items blocks.new.items index result }
+    ensures { IsBlockMarked blocks.old.items blocks.new.items index result }
 {
     let span = block_at(blocks, index).span;
     blocks[index] = Block {
@@ -61,7 +61,7 @@ fn mark_shared(blocks: &mut Vec<Block>, index: usize) -> Span
 
 /// Whether a block has so many kinds, and no other lies there.
 fn is_free(block: Block, count: usize) -> bool
-    ensures { IsTrue result → IsFree block count }
+    ensures { IsTrue result → IsBlockFree block count }
 {
     !block.is_shared && block.span.count as usize == count
 }

@@ -31,7 +31,8 @@ pub trait Flow {
 
     /// The instruction at a place, or `None` where the code ends before it.
     fn instr(&self, place: u32) -> Option<&Instr>
-        ensures { MatchOption result (slice_get (routine self.now).code place ≡ None) (λ i. slice_get (routine self.now).code place ≡ Some i.now) };
+        ensures { MatchOption result (slice_get (routine self.now).code place ≡ None)
+            (λ i. slice_get (routine self.now).code place ≡ Some i.now) };
 
     fn handlers(&self) -> &[Catch]
         ensures { result.now ≡ (routine self.now).handlers };

@@ -53,7 +53,8 @@ fn ranges_of(alloc: Global, handlers: &[Catch]) -> Result<Table<Range>, NoMemory
 /// Adds the places that a handler covers, if it doesn't lead to a place before the code's end.
 #[tactic(auto, using(crate::proofs::Ranges::is_beyond, crate::proofs::Ranges::not_beyond))]
 fn add_beyond(ranges: &mut Table<Range>, handler: &Catch, end: usize) -> Result<(), NoMemory>
-    ensures { OnOk result (ranges.new ≡ ranges.old ++ map range_of (filter (leads_beyond end) (handler.now ∷ []))) }
+    ensures { OnOk result
+        (ranges.new ≡ ranges.old ++ map range_of (filter (leads_beyond end) (handler.now ∷ []))) }
 {
     if (handler.target as usize) >= end {
         ranges.push(range_of(handler))?;
@@ -101,7 +102,8 @@ pub(crate) fn handled_of(alloc: Global, handlers: &[Catch], end: usize) -> Resul
 /// What the rules ask of the handlers that cover a place.
 #[tactic(auto, using(crate::proofs::Covered::cover_is))]
 pub(crate) fn cover_at(handled: &Handled, place: u32) -> Cover
-    ensures { (hs : List AnyCatch) (end : ℕ) → IsHandled hs end handled.now → IsCover (filter (covers place) hs) end result }
+    ensures { (hs : List AnyCatch) (end : ℕ) → IsHandled hs end handled.now
+        → IsCover (filter (covers place) hs) end result }
 {
     Cover {
         is_empty: handled.all.is_free(place),

@@ -1,6 +1,6 @@
 ghost use Rattle.std.specs.Prelude.{◌≡◌, ◌+◌, ◌++◌, ◌∷◌, ◌<◌, ◌≤◌, [], Some, cond, set, slice_get, length, IfOk, IsTrue, OnErr, OnOk};
 ghost use Rattle.abc_link_names.specs.Linked.{IsLinkedFile};
-ghost use Rattle.abc_verify_flow.specs.Kept.{HasLengths, IsBelow, IsHeadBehind, IsLonger, over};
+ghost use Rattle.abc_verify_flow.specs.Kept.{HasLengths, IsStateBelow, IsHeadBehind, IsLonger, over};
 
 use crate::below::{are_operands_below, are_scopes_below};
 use crate::blocks::Blocks;
@@ -47,13 +47,14 @@ pub(crate) struct Kept {
 impl Model for Kept {
     ghost use Rattle.std.specs.Prelude.{List, length};
     ghost use Rattle.abc_verify_typing.specs.declared.state.State.{State as AnyState};
-    ghost use Rattle.abc_verify_flow.specs.Kept.{AreLaid, states_of};
+    ghost use Rattle.abc_verify_flow.specs.Kept.{AreStatesLaid, states_of};
 
     ghost Value = { List AnyState };
 
     ghost view = { λ k. states_of k.operands k.scopes.items k.locals k.heads.items };
 
-    ghost invariant = { λ k. AreLaid k.heads.items (length k.operands) (length k.scopes.items) (length k.locals) };
+    ghost invariant = { λ k. AreStatesLaid k.heads.items (length k.operands) (length k.scopes.items)
+        (length k.locals) };
 }
 
 /// Where the values of a state lie behind all others.
@@ -248,7 +249,7 @@ impl Kept {
     pub(crate) fn is_above<F: Flow>(&self, flow: &F, index: usize, state: &State) -> bool
         requires linked { IsLinkedFile (F.file flow.now) }
         requires inside { index < length self.now }
-        ensures { IsTrue result → IsBelow (F.file flow.now) self.now index state.now }
+        ensures { IsTrue result → IsStateBelow (F.file flow.now) self.now index state.now }
     {
         let head = head_at(&self.heads, index);
         if !are_operands_below(

@@ -2,8 +2,8 @@ ghost use Rattle.std.specs.Prelude.{◌≡◌, ◌+◌, ◌++◌, ◌*◌, ◌�
 ghost use Rattle.abc_link_names.specs.Kinds.{IsAtMost};
 ghost use Rattle.abc_link_names.specs.Linked.{IsLinkedFile};
 ghost use Rattle.abc_verify_typing.specs.Lists.{Each2};
-ghost use Rattle.abc_verify_flow.specs.Blocks.{cut};
-ghost use Rattle.abc_verify_flow.specs.Kept.{IsLonger, joined, over, part};
+ghost use Rattle.abc_verify_flow.specs.Blocks.{blocks_of_64};
+ghost use Rattle.abc_verify_flow.specs.Kept.{IsLonger, concat_blocks, over, part};
 
 use crate::below::are_below;
 use crate::blocks::Blocks;
@@ -48,7 +48,7 @@ pub(crate) fn add_locals(
     like: usize,
 ) -> Result<(), NoMemory>
     ensures longer { IsLonger blocks.old blocks.new }
-    ensures ok { OnOk result (blocks.new ≡ blocks.old ++ cut count locals.now) }
+    ensures ok { OnOk result (blocks.new ≡ blocks.old ++ blocks_of_64 count locals.now) }
 {
     for index in 0..count {
         blocks.push(block_in(locals, index), like.saturating_add(index as usize))?;
@@ -60,7 +60,7 @@ pub(crate) fn add_locals(
 pub(crate) fn put_locals(blocks: &mut Blocks, span: Span, locals: &[Kind]) -> Result<(), NoMemory>
     requires { span.first + span.count ≤ length blocks.old }
     ensures as_many { length blocks.new ≡ length blocks.old }
-    ensures ok { OnOk result (blocks.new ≡ over span blocks.old (cut span.count locals.now)) }
+    ensures ok { OnOk result (blocks.new ≡ over span blocks.old (blocks_of_64 span.count locals.now)) }
 {
     for index in 0..span.count {
         blocks.put(
@@ -78,7 +78,7 @@ pub(crate) fn load_locals(
     span: Span,
 ) -> Result<(), NoMemory>
     requires { span.first + span.count ≤ length blocks.now }
-    ensures { OnOk result (copy.new ≡ joined (part span blocks.now)) }
+    ensures { OnOk result (copy.new ≡ concat_blocks (part span blocks.now)) }
 {
     copy.truncate(0);
     for index in 0..span.count {
@@ -96,7 +96,8 @@ pub(crate) fn are_locals_below<F: Flow>(
 ) -> bool
     requires linked { IsLinkedFile (F.file flow.now) }
     requires inside { span.first + span.count ≤ length blocks.now }
-    ensures { IsTrue result → Each2 (IsAtMost (F.file flow.now)) locals.now (joined (part span blocks.now)) }
+    ensures { IsTrue result
+        → Each2 (IsAtMost (F.file flow.now)) locals.now (concat_blocks (part span blocks.now)) }
 {
     if !are_blocks(locals, span) {
         return false;

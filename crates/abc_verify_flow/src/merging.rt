@@ -3,8 +3,8 @@ ghost use Rattle.abc_link_names.specs.Linked.{IsLinkedFile};
 ghost use Rattle.abc_verify_typing.specs.Instructions.{targets};
 ghost use Rattle.abc_verify_typing.specs.Typing.{Derivable, HasOneShape, Refutes};
 ghost use Rattle.abc_verify_flow.specs.Kept.{Clashes};
-ghost use Rattle.abc_verify_flow.specs.Waits.{IsAdded};
-ghost use Rattle.abc_verify_flow.specs.Walking.{AllReach, AreReady, IsOpen, IsReady, RefusedBy, landing, targets_at};
+ghost use Rattle.abc_verify_flow.specs.Waits.{IsPlaceAdded};
+ghost use Rattle.abc_verify_flow.specs.Walking.{AllReach, AreEntriesReady, IsTableOpen, IsStateReady, RefusedBy, landing, targets_at};
 ghost use Rattle.abc_verify_flow.specs.declared.step.Refusal.TheVariants as refusals;
 
 use crate::copies::no_state;
@@ -23,7 +23,9 @@ pub(crate) fn raise(
     state: &State,
 ) -> Result<(), Refusal>
     requires { place < length states.old }
-    ensures { MatchResult result (λ _. (states.new ≡ set states.old place (Some state.now)) × IsAdded place work.old work.new) (λ e. e ≡ refusals.NoMemory) }
+    ensures { MatchResult result
+        (λ _. (states.new ≡ set states.old place (Some state.now)) × IsPlaceAdded place work.old work.new)
+        (λ e. e ≡ refusals.NoMemory) }
 {
     states.set(place, state)?;
     work.add(place)?;
@@ -70,9 +72,11 @@ pub(crate) fn merge_at<F: Flow>(
     next: &State,
 ) -> Result<(), Refusal>
     requires linked { IsLinkedFile (F.file flow.now) }
-    requires opened { IsOpen (F.file flow.now) (F.routine flow.now) states.old }
-    requires ready { IsReady (F.file flow.now) (F.routine flow.now) (F.heads flow.now) place next.now }
-    ensures { MatchResult result (λ _. AllReach (F.file flow.now) (F.routine flow.now) (F.heads flow.now) ((place, next.now) ∷ []) states.old work.old states.new work.new) (λ e. RefusedBy (F.file flow.now) (F.routine flow.now) e) }
+    requires opened { IsTableOpen (F.file flow.now) (F.routine flow.now) states.old }
+    requires ready { IsStateReady (F.file flow.now) (F.routine flow.now) (F.heads flow.now) place next.now }
+    ensures { MatchResult result (λ _. AllReach (F.file flow.now) (F.routine flow.now) (F.heads flow.now)
+        ((place, next.now) ∷ []) states.old work.old states.new work.new)
+        (λ e. RefusedBy (F.file flow.now) (F.routine flow.now) e) }
 {
     match states.meet(flow, place, next)? {
         Met::First => {
@@ -97,9 +101,11 @@ fn jump_to<F: Flow>(
     state: &State,
 ) -> Result<(), Refusal>
     requires linked { IsLinkedFile (F.file flow.now) }
-    requires opened { IsOpen (F.file flow.now) (F.routine flow.now) states.old }
-    requires ready { IsReady (F.file flow.now) (F.routine flow.now) (F.heads flow.now) place state.now }
-    ensures { MatchResult result (λ _. AllReach (F.file flow.now) (F.routine flow.now) (F.heads flow.now) (map (landing state.now) (place ∷ [])) states.old work.old states.new work.new) (λ e. RefusedBy (F.file flow.now) (F.routine flow.now) e) }
+    requires opened { IsTableOpen (F.file flow.now) (F.routine flow.now) states.old }
+    requires ready { IsStateReady (F.file flow.now) (F.routine flow.now) (F.heads flow.now) place state.now }
+    ensures { MatchResult result (λ _. AllReach (F.file flow.now) (F.routine flow.now) (F.heads flow.now)
+        (map (landing state.now) (place ∷ [])) states.old work.old states.new work.new)
+        (λ e. RefusedBy (F.file flow.now) (F.routine flow.now) e) }
 {
     merge_at(flow, states, work, place, state)
 }
@@ -113,9 +119,12 @@ fn jump_cases<F: Flow>(
     cases: &[u32],
 ) -> Result<(), Refusal>
     requires linked { IsLinkedFile (F.file flow.now) }
-    requires opened { IsOpen (F.file flow.now) (F.routine flow.now) states.old }
-    requires ready { AreReady (F.file flow.now) (F.routine flow.now) (F.heads flow.now) (map (landing state.now) cases.now) }
-    ensures { MatchResult result (λ _. AllReach (F.file flow.now) (F.routine flow.now) (F.heads flow.now) (map (landing state.now) cases.now) states.old work.old states.new work.new) (λ e. RefusedBy (F.file flow.now) (F.routine flow.now) e) }
+    requires opened { IsTableOpen (F.file flow.now) (F.routine flow.now) states.old }
+    requires ready { AreEntriesReady (F.file flow.now) (F.routine flow.now) (F.heads flow.now)
+        (map (landing state.now) cases.now) }
+    ensures { MatchResult result (λ _. AllReach (F.file flow.now) (F.routine flow.now) (F.heads flow.now)
+        (map (landing state.now) cases.now) states.old work.old states.new work.new)
+        (λ e. RefusedBy (F.file flow.now) (F.routine flow.now) e) }
 {
     for case in cases {
         merge_at(flow, states, work, *case, state)?;
@@ -133,9 +142,12 @@ fn jump_along<F: Flow>(
     state: &State,
 ) -> Result<(), Refusal>
     requires linked { IsLinkedFile (F.file flow.now) }
-    requires opened { IsOpen (F.file flow.now) (F.routine flow.now) states.old }
-    requires ready { AreReady (F.file flow.now) (F.routine flow.now) (F.heads flow.now) (map (landing state.now) (targets instr.now)) }
-    ensures { MatchResult result (λ _. AllReach (F.file flow.now) (F.routine flow.now) (F.heads flow.now) (map (landing state.now) (targets instr.now)) states.old work.old states.new work.new) (λ e. RefusedBy (F.file flow.now) (F.routine flow.now) e) }
+    requires opened { IsTableOpen (F.file flow.now) (F.routine flow.now) states.old }
+    requires ready { AreEntriesReady (F.file flow.now) (F.routine flow.now) (F.heads flow.now)
+        (map (landing state.now) (targets instr.now)) }
+    ensures { MatchResult result (λ _. AllReach (F.file flow.now) (F.routine flow.now) (F.heads flow.now)
+        (map (landing state.now) (targets instr.now)) states.old work.old states.new work.new)
+        (λ e. RefusedBy (F.file flow.now) (F.routine flow.now) e) }
 {
     match instr {
         Instr::Branch(_, target) => jump_to(flow, states, work, *target, state),
@@ -164,9 +176,12 @@ pub(crate) fn jump<F: Flow>(
     state: &State,
 ) -> Result<(), Refusal>
     requires linked { IsLinkedFile (F.file flow.now) }
-    requires opened { IsOpen (F.file flow.now) (F.routine flow.now) states.old }
-    requires ready { AreReady (F.file flow.now) (F.routine flow.now) (F.heads flow.now) (map (landing state.now) (targets_at (F.routine flow.now) place)) }
-    ensures { MatchResult result (λ _. AllReach (F.file flow.now) (F.routine flow.now) (F.heads flow.now) (map (landing state.now) (targets_at (F.routine flow.now) place)) states.old work.old states.new work.new) (λ e. RefusedBy (F.file flow.now) (F.routine flow.now) e) }
+    requires opened { IsTableOpen (F.file flow.now) (F.routine flow.now) states.old }
+    requires ready { AreEntriesReady (F.file flow.now) (F.routine flow.now) (F.heads flow.now)
+        (map (landing state.now) (targets_at (F.routine flow.now) place)) }
+    ensures { MatchResult result (λ _. AllReach (F.file flow.now) (F.routine flow.now) (F.heads flow.now)
+        (map (landing state.now) (targets_at (F.routine flow.now) place)) states.old work.old states.new
+        work.new) (λ e. RefusedBy (F.file flow.now) (F.routine flow.now) e) }
 {
     match flow.instr(place) {
         Some(instr) => jump_along(flow, states, work, instr, state),

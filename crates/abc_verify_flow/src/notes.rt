@@ -1,6 +1,6 @@
 ghost use Rattle.std.specs.Prelude.{◌≡◌};
 ghost use Rattle.abc_link_names.specs.Linked.{IsLinkedFile};
-ghost use Rattle.abc_verify_flow.specs.Walking.{Noted, NotedAt};
+ghost use Rattle.abc_verify_flow.specs.Walking.{NotesWritten, NotedAt};
 ghost use Rattle.abc_verify_flow.specs.declared.step.Written.TheVariants as writes;
 
 use crate::flow::Flow;
@@ -30,7 +30,7 @@ fn note_two<F: Flow>(
     second: u32,
 )
     requires { IsLinkedFile (F.file flow.now) }
-    ensures { Noted (F.file flow.now) (writes.Two first second) seen.old locals.now seen.new }
+    ensures { NotesWritten (F.file flow.now) (writes.Two first second) seen.old locals.now seen.new }
 {
     note_one(flow, seen, locals, first);
     note_one(flow, seen, locals, second);
@@ -44,7 +44,7 @@ pub(crate) fn note<F: Flow>(
     written: Written,
 )
     requires { IsLinkedFile (F.file flow.now) }
-    ensures { Noted (F.file flow.now) written seen.old locals.now seen.new }
+    ensures { NotesWritten (F.file flow.now) written seen.old locals.now seen.new }
 {
     match written {
         Written::Nothing => {}

@@ -1,5 +1,5 @@
 ghost use Rattle.std.specs.Prelude.{◌≡◌, ◌<◌, ◌≤◌, [], Some, length, replicate, set, slice_get, OnErr, OnOk};
-ghost use Rattle.abc_verify_flow.specs.Numbering.{Reaches};
+ghost use Rattle.abc_verify_flow.specs.Numbering.{ReachesPlace};
 
 use abc_base::{NoMemory, Table};
 use std::alloc::Global;
@@ -17,11 +17,11 @@ pub(crate) struct PlaceNumbers {
 
 impl Model for PlaceNumbers {
     ghost use Rattle.std.specs.Prelude.{◌≤◌, List, ℕ, length};
-    ghost use Rattle.abc_verify_flow.specs.Numbering.{padded};
+    ghost use Rattle.abc_verify_flow.specs.Numbering.{with_zeros};
 
     ghost Value = { List ℕ };
 
-    ghost view = { λ n. padded n.places n.kept };
+    ghost view = { λ n. with_zeros n.places n.kept };
 
     ghost invariant = { λ n. length n.kept ≤ n.places };
 }
@@ -31,7 +31,7 @@ impl Model for PlaceNumbers {
 fn reach(kept: &mut Table<u32>, place: usize, places: usize) -> Result<(), NoMemory>
     requires inside { place < places }
     requires within { length kept.old ≤ places }
-    ensures ok { OnOk result (Reaches place places kept.old kept.new) }
+    ensures ok { OnOk result (ReachesPlace place places kept.old kept.new) }
     ensures err { OnErr result (kept.new ≡ kept.old) }
 {
     if place < kept.len() {

@@ -1,7 +1,7 @@
 ghost use Rattle.std.specs.Prelude.{◌≡◌, ◌<◌, ◌+◌, [], Some, None, length, replicate, set, slice_get, IfOk, IsTrue, OnOk};
 ghost use Rattle.abc_link_names.specs.Linked.{IsLinkedFile};
 ghost use Rattle.abc_verify_typing.specs.Work.{at};
-ghost use Rattle.abc_verify_flow.specs.Kept.{AreNumbers, IsBelowKnown, IsLoaded, IsNumbered, Meets, known_at, numbered};
+ghost use Rattle.abc_verify_flow.specs.Kept.{ArePlaceNumbers, IsBelowKnown, IsLoaded, IsKnownNumber, Meets, known_at, known_of_number};
 
 use crate::copies::no_state;
 use crate::flow::Flow;
@@ -36,13 +36,13 @@ pub struct States {
 impl Model for States {
     ghost use Rattle.std.specs.Prelude.{List, Option, length};
     ghost use Rattle.abc_verify_typing.specs.declared.state.State.{State as AnyState};
-    ghost use Rattle.abc_verify_flow.specs.Kept.{AreNumbers, known_at};
+    ghost use Rattle.abc_verify_flow.specs.Kept.{ArePlaceNumbers, known_at};
 
     ghost Value = { List (Option AnyState) };
 
     ghost view = { λ s. known_at s.numbers s.known };
 
-    ghost invariant = { λ s. AreNumbers s.numbers (length s.known) };
+    ghost invariant = { λ s. ArePlaceNumbers s.numbers (length s.known) };
 }
 
 /// The number of a state behind so many. Where there are too many, memory is said to have run out.
@@ -59,7 +59,7 @@ fn number_behind(count: usize) -> Result<u32, NoMemory>
 /// Copies the state of a number over another, and tells whether there is one: the first has the number 1.
 #[tactic(auto, using(crate::proofs::Numbers::numbered_none, crate::proofs::Numbers::numbered_next))]
 fn load_numbered(known: &Kept, number: u32, state: &mut State) -> Result<bool, NoMemory>
-    ensures { IfOk result (IsNumbered known.now number state.new) }
+    ensures { IfOk result (IsKnownNumber known.now number state.new) }
 {
     if number == 0 || number as usize > known.len() {
         return Ok(false);
@@ -72,7 +72,7 @@ fn load_numbered(known: &Kept, number: u32, state: &mut State) -> Result<bool, N
 #[tactic(auto, using(crate::proofs::Numbers::numbered_next))]
 fn is_above_numbered<F: Flow>(flow: &F, known: &Kept, number: u32, state: &State) -> bool
     requires { IsLinkedFile (F.file flow.now) }
-    ensures { IsTrue result → IsBelowKnown (F.file flow.now) (numbered known.now number) state.now }
+    ensures { IsTrue result → IsBelowKnown (F.file flow.now) (known_of_number known.now number) state.now }
 {
     if number == 0 || number as usize > known.len() {
         return false;
@@ -106,10 +106,11 @@ fn put_new(
     place: usize,
     state: &State,
 ) -> Result<(), NoMemory>
-    requires numbers { AreNumbers numbers.old (length known.old) }
+    requires numbers { ArePlaceNumbers numbers.old (length known.old) }
     requires inside { place < length numbers.old }
-    ensures numbers { AreNumbers numbers.new (length known.new) }
-    ensures known { OnOk result (known_at numbers.new known.new ≡ set (known_at numbers.old known.old) place (Some state.now)) }
+    ensures numbers { ArePlaceNumbers numbers.new (length known.new) }
+    ensures known { OnOk result
+        (known_at numbers.new known.new ≡ set (known_at numbers.old known.old) place (Some state.now)) }
 {
     check_room(known)?;
     let number = number_behind(known.len())?;
@@ -127,10 +128,11 @@ fn put_again(
     index: usize,
     state: &State,
 ) -> Result<(), NoMemory>
-    requires numbers { AreNumbers numbers.old (length known.old) }
+    requires numbers { ArePlaceNumbers numbers.old (length known.old) }
     requires has { slice_get numbers.old place ≡ Some (index + 1) }
-    ensures numbers { AreNumbers numbers.new (length known.new) }
-    ensures known { OnOk result (known_at numbers.new known.new ≡ set (known_at numbers.old known.old) place (Some state.now)) }
+    ensures numbers { ArePlaceNumbers numbers.new (length known.new) }
+    ensures known { OnOk result
+        (known_at numbers.new known.new ≡ set (known_at numbers.old known.old) place (Some state.now)) }
 {
     check_room(known)?;
     if known.put(index, state)? {

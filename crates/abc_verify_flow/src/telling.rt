@@ -4,8 +4,8 @@ ghost use Rattle.abc_base_trees.specs.Hung.{AreHung, leaves};
 ghost use Rattle.abc_verify_typing.specs.Effects.{covering};
 ghost use Rattle.abc_verify_typing.specs.declared.catch.Catch.{Catch as AnyCatch};
 ghost use Rattle.abc_verify_typing.specs.Work.{at};
-ghost use Rattle.abc_verify_flow.specs.Telling.{AreKept, HandlerAt, HasCaught, HasCaughtOne, HasTold, HasToldAt, IsReadyFor, Raises, range_of};
-ghost use Rattle.abc_verify_flow.specs.Walking.{AllReach, AreReady, IsOpen, RefusedBy, caught_with};
+ghost use Rattle.abc_verify_flow.specs.Telling.{AreHandlersTold, HandlerAt, HasCaught, HasCaughtOne, HasTold, HasToldAt, IsReadyFor, Raises, range_of};
+ghost use Rattle.abc_verify_flow.specs.Walking.{AllReach, AreEntriesReady, IsTableOpen, RefusedBy, caught_with};
 
 use crate::copies::{copy_state, no_state};
 use crate::flow::Flow;
@@ -71,9 +71,13 @@ fn catch_one<F: Flow>(
     handler: Catch,
 ) -> Result<(), Refusal>
     requires linked { IsLinkedFile (F.file flow.now) }
-    requires opened { IsOpen (F.file flow.now) (F.routine flow.now) states.old }
-    requires ready { IsReadyFor (F.file flow.now) (F.routine flow.now) (F.heads flow.now) caught.old.locals handler }
-    ensures { MatchResult result (λ _. AllReach (F.file flow.now) (F.routine flow.now) (F.heads flow.now) (caught_with caught.old.locals handler ∷ []) states.old work.old states.new work.new × (caught.new.locals ≡ caught.old.locals)) (λ e. RefusedBy (F.file flow.now) (F.routine flow.now) e) }
+    requires opened { IsTableOpen (F.file flow.now) (F.routine flow.now) states.old }
+    requires ready { IsReadyFor (F.file flow.now) (F.routine flow.now) (F.heads flow.now) caught.old.locals
+        handler }
+    ensures { MatchResult result (λ _. AllReach (F.file flow.now) (F.routine flow.now) (F.heads flow.now)
+        (caught_with caught.old.locals handler ∷ []) states.old work.old states.new work.new
+        × (caught.new.locals ≡ caught.old.locals))
+        (λ e. RefusedBy (F.file flow.now) (F.routine flow.now) e) }
 {
     catch_in(caught, handler.kind)?;
     merge_at(flow, states, work, handler.target, caught)?;
@@ -96,9 +100,13 @@ fn catch_numbered<F: Flow>(
     number: u32,
 ) -> Result<(), Refusal>
     requires linked { IsLinkedFile (F.file flow.now) }
-    requires opened { IsOpen (F.file flow.now) (F.routine flow.now) states.old }
-    requires ready { (h : AnyCatch) → slice_get (F.routine flow.now).handlers number ≡ Some h → IsReadyFor (F.file flow.now) (F.routine flow.now) (F.heads flow.now) caught.old.locals h }
-    ensures { MatchResult result (λ _. HasCaughtOne (F.file flow.now) (F.routine flow.now) (F.heads flow.now) number caught.old.locals states.old work.old states.new work.new × (caught.new.locals ≡ caught.old.locals)) (λ e. RefusedBy (F.file flow.now) (F.routine flow.now) e) }
+    requires opened { IsTableOpen (F.file flow.now) (F.routine flow.now) states.old }
+    requires ready { (h : AnyCatch) → slice_get (F.routine flow.now).handlers number ≡ Some h
+        → IsReadyFor (F.file flow.now) (F.routine flow.now) (F.heads flow.now) caught.old.locals h }
+    ensures { MatchResult result (λ _. HasCaughtOne (F.file flow.now) (F.routine flow.now) (F.heads flow.now)
+        number caught.old.locals states.old work.old states.new work.new
+        × (caught.new.locals ≡ caught.old.locals))
+        (λ e. RefusedBy (F.file flow.now) (F.routine flow.now) e) }
 {
     match handler_at(flow.handlers(), number) {
         Some(handler) => {
@@ -119,9 +127,13 @@ fn catch_all<F: Flow>(
     node: u32,
 ) -> Result<(), Refusal>
     requires linked { IsLinkedFile (F.file flow.now) }
-    requires opened { IsOpen (F.file flow.now) (F.routine flow.now) states.old }
-    requires ready { (h : AnyCatch) → HandlerAt stabs.now (F.routine flow.now).handlers node h → IsReadyFor (F.file flow.now) (F.routine flow.now) (F.heads flow.now) caught.old.locals h }
-    ensures { MatchResult result (λ _. HasCaught (F.file flow.now) (F.routine flow.now) (F.heads flow.now) stabs.now node caught.old.locals states.old work.old states.new work.new × (caught.new.locals ≡ caught.old.locals)) (λ e. RefusedBy (F.file flow.now) (F.routine flow.now) e) }
+    requires opened { IsTableOpen (F.file flow.now) (F.routine flow.now) states.old }
+    requires ready { (h : AnyCatch) → HandlerAt stabs.now (F.routine flow.now).handlers node h
+        → IsReadyFor (F.file flow.now) (F.routine flow.now) (F.heads flow.now) caught.old.locals h }
+    ensures { MatchResult result (λ _. HasCaught (F.file flow.now) (F.routine flow.now) (F.heads flow.now)
+        stabs.now node caught.old.locals states.old work.old states.new work.new
+        × (caught.new.locals ≡ caught.old.locals))
+        (λ e. RefusedBy (F.file flow.now) (F.routine flow.now) e) }
 {
     let mut link = stabs.first(node);
     while let Some(hang) = stabs.find(link) {
@@ -143,11 +155,15 @@ fn tell_more<F: Flow>(
     node: u32,
 ) -> Result<(), Refusal>
     requires linked { IsLinkedFile (F.file flow.now) }
-    requires opened { IsOpen (F.file flow.now) (F.routine flow.now) states.old }
+    requires opened { IsTableOpen (F.file flow.now) (F.routine flow.now) states.old }
     requires inside { node < 2 * leaves stabs.now }
-    requires kept { AreKept (F.file flow.now) (F.routine flow.now) (F.heads flow.now) stabs.now told.old states.old }
-    requires ready { (h : AnyCatch) → HandlerAt stabs.now (F.routine flow.now).handlers node h → IsReadyFor (F.file flow.now) (F.routine flow.now) (F.heads flow.now) caught.locals h }
-    ensures { MatchResult result (λ _. HasToldAt (F.file flow.now) (F.routine flow.now) (F.heads flow.now) stabs.now node caught.locals states.old work.old told.new states.new work.new) (λ e. RefusedBy (F.file flow.now) (F.routine flow.now) e) }
+    requires kept { AreHandlersTold (F.file flow.now) (F.routine flow.now) (F.heads flow.now) stabs.now
+        told.old states.old }
+    requires ready { (h : AnyCatch) → HandlerAt stabs.now (F.routine flow.now).handlers node h
+        → IsReadyFor (F.file flow.now) (F.routine flow.now) (F.heads flow.now) caught.locals h }
+    ensures { MatchResult result (λ _. HasToldAt (F.file flow.now) (F.routine flow.now) (F.heads flow.now)
+        stabs.now node caught.locals states.old work.old told.new states.new work.new)
+        (λ e. RefusedBy (F.file flow.now) (F.routine flow.now) e) }
 {
     let mut caught = caught;
     catch_all(flow, stabs, states, work, &mut caught, node)?;
@@ -166,11 +182,15 @@ fn tell_at<F: Flow>(
     node: u32,
 ) -> Result<(), Refusal>
     requires linked { IsLinkedFile (F.file flow.now) }
-    requires opened { IsOpen (F.file flow.now) (F.routine flow.now) states.old }
+    requires opened { IsTableOpen (F.file flow.now) (F.routine flow.now) states.old }
     requires inside { node < 2 * leaves stabs.now }
-    requires kept { AreKept (F.file flow.now) (F.routine flow.now) (F.heads flow.now) stabs.now told.old states.old }
-    requires ready { (h : AnyCatch) → HandlerAt stabs.now (F.routine flow.now).handlers node h → IsReadyFor (F.file flow.now) (F.routine flow.now) (F.heads flow.now) seen.now.locals h }
-    ensures { MatchResult result (λ _. HasToldAt (F.file flow.now) (F.routine flow.now) (F.heads flow.now) stabs.now node seen.now.locals states.old work.old told.new states.new work.new) (λ e. RefusedBy (F.file flow.now) (F.routine flow.now) e) }
+    requires kept { AreHandlersTold (F.file flow.now) (F.routine flow.now) (F.heads flow.now) stabs.now
+        told.old states.old }
+    requires ready { (h : AnyCatch) → HandlerAt stabs.now (F.routine flow.now).handlers node h
+        → IsReadyFor (F.file flow.now) (F.routine flow.now) (F.heads flow.now) seen.now.locals h }
+    ensures { MatchResult result (λ _. HasToldAt (F.file flow.now) (F.routine flow.now) (F.heads flow.now)
+        stabs.now node seen.now.locals states.old work.old told.new states.new work.new)
+        (λ e. RefusedBy (F.file flow.now) (F.routine flow.now) e) }
 {
     if stabs.first(node) == 0 {
         return Ok(());
@@ -195,11 +215,15 @@ pub(crate) fn tell<F: Flow>(
     place: u32,
 ) -> Result<(), Refusal>
     requires linked { IsLinkedFile (F.file flow.now) }
-    requires opened { IsOpen (F.file flow.now) (F.routine flow.now) states.old }
+    requires opened { IsTableOpen (F.file flow.now) (F.routine flow.now) states.old }
     requires hung { AreHung (map range_of (F.routine flow.now).handlers) stabs.now }
-    requires kept { AreKept (F.file flow.now) (F.routine flow.now) (F.heads flow.now) stabs.now told.old states.old }
-    requires ready { AreReady (F.file flow.now) (F.routine flow.now) (F.heads flow.now) (map (caught_with seen.now.locals) (covering (F.routine flow.now) place)) }
-    ensures { MatchResult result (λ _. HasTold (F.file flow.now) (F.routine flow.now) (F.heads flow.now) stabs.now place seen.now.locals states.old work.old told.new states.new work.new) (λ e. RefusedBy (F.file flow.now) (F.routine flow.now) e) }
+    requires kept { AreHandlersTold (F.file flow.now) (F.routine flow.now) (F.heads flow.now) stabs.now
+        told.old states.old }
+    requires ready { AreEntriesReady (F.file flow.now) (F.routine flow.now) (F.heads flow.now)
+        (map (caught_with seen.now.locals) (covering (F.routine flow.now) place)) }
+    ensures { MatchResult result (λ _. HasTold (F.file flow.now) (F.routine flow.now) (F.heads flow.now)
+        stabs.now place seen.now.locals states.old work.old told.new states.new work.new)
+        (λ e. RefusedBy (F.file flow.now) (F.routine flow.now) e) }
 {
     let mut node = stabs.leaf(place);
     while node > 0 {

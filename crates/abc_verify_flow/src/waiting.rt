@@ -1,5 +1,5 @@
 ghost use Rattle.std.specs.Prelude.{◌≡◌, [], MatchOption, OnOk};
-ghost use Rattle.abc_verify_flow.specs.Waits.{IsAdded, IsTaken};
+ghost use Rattle.abc_verify_flow.specs.Waits.{IsPlaceAdded, IsLowestTaken};
 
 use abc_base::NoMemory;
 use std::alloc::Global;
@@ -42,7 +42,7 @@ impl Waiting {
     /// Marks a place. One that waits already goes on waiting.
     #[tactic(auto, using(crate::proofs::Waits::added))]
     pub(crate) fn add(&mut self, place: u32) -> Result<(), NoMemory>
-        ensures { OnOk result (IsAdded place self.old self.new) }
+        ensures { OnOk result (IsPlaceAdded place self.old self.new) }
     {
         self.marked.insert(place)?;
         Ok(())
@@ -51,7 +51,7 @@ impl Waiting {
     /// Takes the lowest place and wipes its mark, or answers `None` where no place waits.
     #[tactic(auto, using(crate::proofs::Waits::popped))]
     pub(crate) fn pop(&mut self) -> Option<u32>
-        ensures { MatchOption result (self.old ≡ []) (λ place. IsTaken place self.old self.new) }
+        ensures { MatchOption result (self.old ≡ []) (λ place. IsLowestTaken place self.old self.new) }
     {
         self.marked.pop_first()
     }

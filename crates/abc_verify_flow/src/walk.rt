@@ -4,8 +4,8 @@ ghost use Rattle.abc_verify_typing.specs.Effects.{covering};
 ghost use Rattle.abc_verify_typing.specs.Typing.{Derivable, HasTyping};
 ghost use Rattle.abc_verify_typing.specs.Work.{IsUnderWay};
 ghost use Rattle.abc_verify_flow.specs.Handled.{IsCoverAt};
-ghost use Rattle.abc_verify_flow.specs.Telling.{AreKept, IsHandled};
-ghost use Rattle.abc_verify_flow.specs.Walking.{AllReach, AreHeads, AreReady, ArrivesAt, HasPaced, HasTurned, HasWalked, IsOpen, IsPending, IsSeenFirst, IsSettled, MayGoOn, Passed, RefusedBy, is_head, landing, targets_at};
+ghost use Rattle.abc_verify_flow.specs.Telling.{AreHandlersTold, IsHandled};
+ghost use Rattle.abc_verify_flow.specs.Walking.{AllReach, AreWalkHeads, AreEntriesReady, ArrivesAt, HasPaced, HasTurned, HasWalked, IsTableOpen, IsPending, IsSeenFirst, IsSettled, MayGoOn, Passed, RefusedBy, is_head, landing, targets_at};
 
 use crate::copies::{copy_over, no_state};
 use crate::flow::Flow;
@@ -32,9 +32,13 @@ fn jump_if<F: Flow>(
     state: &State,
 ) -> Result<(), Refusal>
     requires linked { IsLinkedFile (F.file flow.now) }
-    requires opened { IsOpen (F.file flow.now) (F.routine flow.now) states.old }
-    requires ready { jumps ≡ true → AreReady (F.file flow.now) (F.routine flow.now) (F.heads flow.now) (map (landing state.now) (targets_at (F.routine flow.now) place)) }
-    ensures { MatchResult result (λ _. AllReach (F.file flow.now) (F.routine flow.now) (F.heads flow.now) (map (landing state.now) (cond jumps (targets_at (F.routine flow.now) place) [])) states.old work.old states.new work.new) (λ e. RefusedBy (F.file flow.now) (F.routine flow.now) e) }
+    requires opened { IsTableOpen (F.file flow.now) (F.routine flow.now) states.old }
+    requires ready { jumps ≡ true
+        → AreEntriesReady (F.file flow.now) (F.routine flow.now) (F.heads flow.now)
+        (map (landing state.now) (targets_at (F.routine flow.now) place)) }
+    ensures { MatchResult result (λ _. AllReach (F.file flow.now) (F.routine flow.now) (F.heads flow.now)
+        (map (landing state.now) (cond jumps (targets_at (F.routine flow.now) place) [])) states.old
+        work.old states.new work.new) (λ e. RefusedBy (F.file flow.now) (F.routine flow.now) e) }
 {
     if jumps {
         jump(flow, states, work, place, state)
@@ -55,10 +59,12 @@ fn arrive<F: Flow>(
 ) -> Result<Onward, Refusal>
     requires linked { IsLinkedFile (F.file flow.now) }
     requires small { length (F.routine flow.now).code < 2 ^ 31 }
-    requires opened { IsOpen (F.file flow.now) (F.routine flow.now) states.old }
+    requires opened { IsTableOpen (F.file flow.now) (F.routine flow.now) states.old }
     requires ready { step.next ≡ true → MayGoOn (F.file flow.now) (F.routine flow.now) place state.now }
     requires place { place < length (F.routine flow.now).code }
-    ensures { MatchResult result (λ o. ArrivesAt (F.file flow.now) (F.routine flow.now) (F.heads flow.now) step place state.now states.old work.old states.new work.new o) (λ e. RefusedBy (F.file flow.now) (F.routine flow.now) e) }
+    ensures { MatchResult result (λ o. ArrivesAt (F.file flow.now) (F.routine flow.now) (F.heads flow.now)
+        step place state.now states.old work.old states.new work.new o)
+        (λ e. RefusedBy (F.file flow.now) (F.routine flow.now) e) }
 {
     if !step.next {
         return Ok(Onward::Stops);
@@ -84,13 +90,16 @@ fn pass<F: Flow>(
 ) -> Result<Onward, Refusal>
     requires linked { IsLinkedFile (F.file flow.now) }
     requires small { length (F.routine flow.now).code < 2 ^ 31 }
-    requires heads { AreHeads (F.routine flow.now) (F.heads flow.now) }
-    requires opened { IsOpen (F.file flow.now) (F.routine flow.now) states.old }
+    requires heads { AreWalkHeads (F.routine flow.now) (F.heads flow.now) }
+    requires opened { IsTableOpen (F.file flow.now) (F.routine flow.now) states.old }
     requires place { place < length (F.routine flow.now).code }
     requires derived { Derivable (F.file flow.now) (F.routine flow.now) place now.old }
     requires cover { IsCoverAt (F.routine flow.now) place cover }
-    requires pending { IsPending (F.file flow.now) (F.routine flow.now) (F.heads flow.now) (covering (F.routine flow.now) place) seen.old now.old.locals written }
-    ensures { MatchResult result (λ o. Passed (F.file flow.now) (F.routine flow.now) (F.heads flow.now) (covering (F.routine flow.now) place) place now.old now.new seen.old seen.new states.old work.old states.new work.new o) (λ e. RefusedBy (F.file flow.now) (F.routine flow.now) e) }
+    requires pending { IsPending (F.file flow.now) (F.routine flow.now) (F.heads flow.now)
+        (covering (F.routine flow.now) place) seen.old now.old.locals written }
+    ensures { MatchResult result (λ o. Passed (F.file flow.now) (F.routine flow.now) (F.heads flow.now)
+        (covering (F.routine flow.now) place) place now.old now.new seen.old seen.new states.old work.old
+        states.new work.new o) (λ e. RefusedBy (F.file flow.now) (F.routine flow.now) e) }
 {
     note(flow, seen, &now.locals, written);
     let trial = flow.advance(place, now, cover)?;
@@ -117,13 +126,15 @@ fn pace<F: Flow>(
 ) -> Result<(), Refusal>
     requires linked { IsLinkedFile (F.file flow.now) }
     requires small { length (F.routine flow.now).code < 2 ^ 31 }
-    requires heads { AreHeads (F.routine flow.now) (F.heads flow.now) }
-    requires opened { IsOpen (F.file flow.now) (F.routine flow.now) states.old }
+    requires heads { AreWalkHeads (F.routine flow.now) (F.heads flow.now) }
+    requires opened { IsTableOpen (F.file flow.now) (F.routine flow.now) states.old }
     requires place { start < length (F.routine flow.now).code }
     requires derived { Derivable (F.file flow.now) (F.routine flow.now) start now.old }
     requires cover { IsCoverAt (F.routine flow.now) start cover }
     requires seen_is { IsSeenFirst (covering (F.routine flow.now) start) seen.old now.old.locals }
-    ensures { MatchResult result (λ _. HasPaced (F.file flow.now) (F.routine flow.now) (F.heads flow.now) (covering (F.routine flow.now) start) start now.old seen.new states.old work.old states.new work.new) (λ e. RefusedBy (F.file flow.now) (F.routine flow.now) e) }
+    ensures { MatchResult result (λ _. HasPaced (F.file flow.now) (F.routine flow.now) (F.heads flow.now)
+        (covering (F.routine flow.now) start) start now.old seen.new states.old work.old states.new
+        work.new) (λ e. RefusedBy (F.file flow.now) (F.routine flow.now) e) }
 {
     let mut place = start;
     let mut written = Written::Nothing;
@@ -160,13 +171,18 @@ fn walk_from<F: Flow>(
 ) -> Result<(), Refusal>
     requires linked { IsLinkedFile (F.file flow.now) }
     requires small { length (F.routine flow.now).code < 2 ^ 31 }
-    requires heads { AreHeads (F.routine flow.now) (F.heads flow.now) }
-    requires handled { IsHandled (F.routine flow.now).handlers (length (F.routine flow.now).code) handled.now }
-    requires opened { IsOpen (F.file flow.now) (F.routine flow.now) states.old }
-    requires kept { AreKept (F.file flow.now) (F.routine flow.now) (F.heads flow.now) handled.now.all told.old states.old }
+    requires heads { AreWalkHeads (F.routine flow.now) (F.heads flow.now) }
+    requires handled { IsHandled (F.routine flow.now).handlers (length (F.routine flow.now).code)
+        handled.now }
+    requires opened { IsTableOpen (F.file flow.now) (F.routine flow.now) states.old }
+    requires kept { AreHandlersTold (F.file flow.now) (F.routine flow.now) (F.heads flow.now) handled.now.all
+        told.old states.old }
     requires place { start < length (F.routine flow.now).code }
     requires derived { Derivable (F.file flow.now) (F.routine flow.now) start now.old }
-    ensures { MatchResult result (λ _. HasWalked (F.file flow.now) (F.routine flow.now) (F.heads flow.now) start now.old states.old work.old states.new work.new × AreKept (F.file flow.now) (F.routine flow.now) (F.heads flow.now) handled.now.all told.new states.new) (λ e. RefusedBy (F.file flow.now) (F.routine flow.now) e) }
+    ensures { MatchResult result (λ _. HasWalked (F.file flow.now) (F.routine flow.now) (F.heads flow.now)
+        start now.old states.old work.old states.new work.new
+        × AreHandlersTold (F.file flow.now) (F.routine flow.now) (F.heads flow.now) handled.now.all
+        told.new states.new) (λ e. RefusedBy (F.file flow.now) (F.routine flow.now) e) }
 {
     let cover = cover_at(handled, start);
     see_first(&mut seen.locals, cover, &now.locals)?;
@@ -195,11 +211,17 @@ fn visit<F: Flow>(
 ) -> Result<(), Refusal>
     requires linked { IsLinkedFile (F.file flow.now) }
     requires small { length (F.routine flow.now).code < 2 ^ 31 }
-    requires heads { AreHeads (F.routine flow.now) (F.heads flow.now) }
-    requires handled { IsHandled (F.routine flow.now).handlers (length (F.routine flow.now).code) handled.now }
-    requires under_way { IsUnderWay (F.file flow.now) (F.routine flow.now) (is_head (F.heads flow.now)) states.old (place ∷ work.old) }
-    requires kept { AreKept (F.file flow.now) (F.routine flow.now) (F.heads flow.now) handled.now.all walker.old.told states.old }
-    ensures { MatchResult result (λ _. HasTurned (F.file flow.now) (F.routine flow.now) (F.heads flow.now) place states.old work.old states.new work.new × AreKept (F.file flow.now) (F.routine flow.now) (F.heads flow.now) handled.now.all walker.new.told states.new) (λ e. RefusedBy (F.file flow.now) (F.routine flow.now) e) }
+    requires heads { AreWalkHeads (F.routine flow.now) (F.heads flow.now) }
+    requires handled { IsHandled (F.routine flow.now).handlers (length (F.routine flow.now).code)
+        handled.now }
+    requires under_way { IsUnderWay (F.file flow.now) (F.routine flow.now) (is_head (F.heads flow.now))
+        states.old (place ∷ work.old) }
+    requires kept { AreHandlersTold (F.file flow.now) (F.routine flow.now) (F.heads flow.now) handled.now.all
+        walker.old.told states.old }
+    ensures { MatchResult result (λ _. HasTurned (F.file flow.now) (F.routine flow.now) (F.heads flow.now)
+        place states.old work.old states.new work.new
+        × AreHandlersTold (F.file flow.now) (F.routine flow.now) (F.heads flow.now) handled.now.all
+        walker.new.told states.new) (λ e. RefusedBy (F.file flow.now) (F.routine flow.now) e) }
 {
     if !states.load(place, &mut walker.now)? {
         return Ok(());
@@ -227,8 +249,10 @@ fn check_code<F: Flow>(
     requires linked { IsLinkedFile (F.file flow.now) }
     requires some { 0 < length (F.routine flow.now).code }
     requires small { length (F.routine flow.now).code < 2 ^ 31 }
-    requires heads { AreHeads (F.routine flow.now) (F.heads flow.now) }
-    ensures { MatchResult result (λ walks. IsSettled (F.file flow.now) (F.routine flow.now) (F.heads flow.now) walks states.new) (λ e. RefusedBy (F.file flow.now) (F.routine flow.now) e) }
+    requires heads { AreWalkHeads (F.routine flow.now) (F.heads flow.now) }
+    ensures { MatchResult result
+        (λ walks. IsSettled (F.file flow.now) (F.routine flow.now) (F.heads flow.now) walks states.new)
+        (λ e. RefusedBy (F.file flow.now) (F.routine flow.now) e) }
 {
     let handled = handled_of(flow.alloc(), flow.handlers(), flow.len())?;
     walker.told.renew(handled.all.nodes());
@@ -273,8 +297,10 @@ impl Memory {
 pub fn check_flow<F: Flow>(flow: &F, memory: &mut Memory) -> Result<u64, Refusal>
     requires linked { IsLinkedFile (F.file flow.now) }
     requires small { length (F.routine flow.now).code < 2 ^ 31 }
-    requires heads { AreHeads (F.routine flow.now) (F.heads flow.now) }
-    ensures { MatchResult result (λ walks. HasTyping (F.file flow.now) (F.routine flow.now) × IsSettled (F.file flow.now) (F.routine flow.now) (F.heads flow.now) walks memory.new.states) (λ e. RefusedBy (F.file flow.now) (F.routine flow.now) e) }
+    requires heads { AreWalkHeads (F.routine flow.now) (F.heads flow.now) }
+    ensures { MatchResult result (λ walks. HasTyping (F.file flow.now) (F.routine flow.now)
+        × IsSettled (F.file flow.now) (F.routine flow.now) (F.heads flow.now) walks memory.new.states)
+        (λ e. RefusedBy (F.file flow.now) (F.routine flow.now) e) }
 {
     if flow.len() == 0 {
         return Err(Refusal::Refused(0, VerifyRule::OffEnd));

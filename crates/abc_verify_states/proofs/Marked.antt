@@ -9,7 +9,7 @@ use Rattle.abc_verify_typing.specs.Routines.{Routine}
 use Rattle.abc_verify_typing.specs.Typing.{In}
 use Rattle.abc_verify_typing.specs.declared.catch.Catch.{Catch}
 use Rattle.abc_verify_typing.proofs.Member.{in_append, in_left, in_right}
-use Rattle.abc_verify_flow.specs.Walking.{AreHeads, AtHandler, AtStart, AtTarget, BeginsWalk, holds_so, is_head, targets_at, targets_in}
+use Rattle.abc_verify_flow.specs.Walking.{AreWalkHeads, AtHandler, AtStart, AtTarget, BeginsWalk, holds_so, is_head, targets_at, targets_of_instr}
 use Rattle.abc_verify_states.specs.Marking.{AreHeadsOf, Marks, code_targets, handler_places}
 
 -- a list of none, filled up
@@ -112,12 +112,12 @@ code_next code k d a b c lt x y =
 pub code_whole : (code : List Instr) (k : ℕ) (a b : List Bool) → length code ≤ k → Marks (code_targets (take k code)) a b → Marks (code_targets code) a b
 code_whole code k a b le x = subst (λ (is : List Instr). Marks (code_targets is) a b) (take_whole code k le) x
 
-in_code : (code : List Instr) (i t : ℕ) → In t (targets_in (slice_get code i)) → In t (code_targets code)
+in_code : (code : List Instr) (i t : ℕ) → In t (targets_of_instr (slice_get code i)) → In t (code_targets code)
 in_code [] i t k = absurd k
 in_code (x ∷ code) zero t k = in_left t (targets x) (code_targets code) k
 in_code (x ∷ code) (suc i) t k = in_right t (targets x) (code_targets code) (in_code code i t k)
 
-code_in : (code : List Instr) (t : ℕ) → In t (code_targets code) → (i : ℕ) × In t (targets_in (slice_get code i))
+code_in : (code : List Instr) (t : ℕ) → In t (code_targets code) → (i : ℕ) × In t (targets_of_instr (slice_get code i))
 code_in [] t k = absurd k
 code_in (x ∷ code) t k = elim (in_append t (targets x) (code_targets code) k) [ inl j ↦ (0, j) | inr j ↦ (let r = code_in code t j in (suc r.0, r.1)) ]
 
@@ -175,7 +175,7 @@ heads code hs n a b c d some enough blank x y z m is_code is_handlers =
     let yl = y.long in
     record {
       first = z.keeps 0 (y.keeps 0 (x.marks 0 (inl refl) (omega arith)));
-      jumps = λ i t k lt. z.keeps t (y.marks t (in_code code i t (subst (λ (is : List Instr). In t (targets_in (slice_get is i))) is_code k)) (omega arith));
+      jumps = λ i t k lt. z.keeps t (y.marks t (in_code code i t (subst (λ (is : List Instr). In t (targets_of_instr (slice_get is i))) is_code k)) (omega arith));
       handlers = λ h k lt. z.marks h.target (in_target h hs (subst (λ (us : List Catch). In h us) is_handlers k)) (omega arith);
       begins = λ h k lt. z.marks h.from (in_from h hs (subst (λ (us : List Catch). In h us) is_handlers k)) (omega arith);
       only = only;
@@ -186,7 +186,7 @@ heads code hs n a b c d some enough blank x y z m is_code is_handlers =
     only t e = elim (z.only t e) [
       | inr k ↦ (let r = place_in hs t k in AtHandler r.0 (subst (λ (us : List Catch). In r.0 us) (sym is_handlers) r.1) r.2)
       | inl f ↦ elim (y.only t f) [
-        | inr k ↦ (let r = code_in code t k in AtTarget r.0 (subst (λ (is : List Instr). In t (targets_in (slice_get is r.0))) (sym is_code) r.1))
+        | inr k ↦ (let r = code_in code t k in AtTarget r.0 (subst (λ (is : List Instr). In t (targets_of_instr (slice_get is r.0))) (sym is_code) r.1))
         | inl g ↦ elim (x.only t g) [
           | inr (inl q) ↦ AtStart q
           | inr (inr k) ↦ absurd k

@@ -11,7 +11,7 @@ use Rattle.abc_file_types.specs.Methods.{has_flag}
 use Rattle.abc_file_types.specs.declared.code.Body.{Body}
 use Rattle.abc_file_types.specs.declared.code.Handler.{Handler}
 use Rattle.abc_file_types.specs.declared.methods.Method.{Method}
-use Rattle.abc_verify_typing.specs.Routines.{Routine, arrays, catches, filled_by, home_of, is_unsupported, or_any, routine_of, this_kind, type_at}
+use Rattle.abc_verify_typing.specs.Routines.{Routine, arrays, catches_from, filled_by, home_of, is_unsupported, or_any, routine_with, this_kind, type_at}
 use Rattle.abc_verify_typing.specs.declared.catch.Catch.{Catch}
 use Rattle.abc_verify_typing.specs.declared.home.Home.{Home}
 use Rattle.abc_verify_typing.specs.declared.state.Scope.{Scope}
@@ -41,18 +41,18 @@ filled_all l o whose m this types flags e a b c xe xa xt xo xp xb xf xc =
 -- ---- handlers
 
 pub catches_next : (l : LinkedFile) (b : ℕ) (hs : List Handler) (k : ℕ) (x : Handler) (y : Catch) (list new whole : List Catch)
-    → k < length hs → get_or hs k x ≡ x → list ++ catches l b k (drop k hs) ≡ whole → y ≡ catch_in l b k x → new ≡ list ++ y ∷ []
-    → new ++ catches l b (k + 1) (drop (k + 1) hs) ≡ whole
+    → k < length hs → get_or hs k x ≡ x → list ++ catches_from l b k (drop k hs) ≡ whole → y ≡ catch_in l b k x → new ≡ list ++ y ∷ []
+    → new ++ catches_from l b (k + 1) (drop (k + 1) hs) ≡ whole
 catches_next l b hs k x y list new whole lt at before made is =
     let next : k + 1 ≡ suc k = omega arith in
-    ap (λ (n : ℕ). new ++ catches l b n (drop n hs)) next
-    ∙ ap (λ (cs : List Catch). cs ++ catches l b (suc k) (drop (suc k) hs)) (is ∙ ap (λ (z : Catch). list ++ z ∷ []) made)
-    ∙ append_assoc list (catch_in l b k x ∷ []) (catches l b (suc k) (drop (suc k) hs))
-    ∙ ap (λ (ys : List Handler). list ++ catches l b k ys) (sym (next_left hs k x lt at))
+    ap (λ (n : ℕ). new ++ catches_from l b n (drop n hs)) next
+    ∙ ap (λ (cs : List Catch). cs ++ catches_from l b (suc k) (drop (suc k) hs)) (is ∙ ap (λ (z : Catch). list ++ z ∷ []) made)
+    ∙ append_assoc list (catch_in l b k x ∷ []) (catches_from l b (suc k) (drop (suc k) hs))
+    ∙ ap (λ (ys : List Handler). list ++ catches_from l b k ys) (sym (next_left hs k x lt at))
     ∙ before
 
-pub catches_all : (l : LinkedFile) (b : ℕ) (hs : List Handler) (k : ℕ) (list whole : List Catch) → length hs ≤ k → list ++ catches l b k (drop k hs) ≡ whole → list ≡ whole
-catches_all l b hs k list whole le e = sym (append-nil list) ∙ ap (λ (ys : List Handler). list ++ catches l b k ys) (sym (none_left hs k le)) ∙ e
+pub catches_all : (l : LinkedFile) (b : ℕ) (hs : List Handler) (k : ℕ) (list whole : List Catch) → length hs ≤ k → list ++ catches_from l b k (drop k hs) ≡ whole → list ≡ whole
+catches_all l b hs k list whole le e = sym (append-nil list) ∙ ap (λ (ys : List Handler). list ++ catches_from l b k ys) (sym (none_left hs k le)) ∙ e
 
 -- ---- locals
 
@@ -91,8 +91,8 @@ made body filled home activates refused layout size handlers = record {
 }
 
 pub framed : (l : LinkedFile) (b : ℕ) (body : Body) (m : Method) (o whose : Owner) (filled : List Kind) (home : Home) (flags : ℕ) (activates refused : Bool) (layout : LayoutId) (size : ℕ) (handlers : List Catch)
-    → filled ≡ filled_by l o m → home ≡ home_of l whose → whose ≡ o → flags ≡ m.flags → activates ≡ has_flag flags 0x02 → refused ≡ is_unsupported flags → layout ≡ layout_of l (parts.Activation b) → size ≡ body.max_scope - body.init_scope → handlers ≡ catches l b 0 body.handlers
-    → made body filled home activates refused layout size handlers ≡ routine_of l b body m o
+    → filled ≡ filled_by l o m → home ≡ home_of l whose → whose ≡ o → flags ≡ m.flags → activates ≡ has_flag flags 0x02 → refused ≡ is_unsupported flags → layout ≡ layout_of l (parts.Activation b) → size ≡ body.max_scope - body.init_scope → handlers ≡ catches_from l b 0 body.handlers
+    → made body filled home activates refused layout size handlers ≡ routine_with l b body m o
 framed l b body m o whose filled home flags activates refused layout size handlers xf xh xo xg xa xr xl xs xc =
     let h : home ≡ home_of l o = xh ∙ ap (home_of l) xo in
     let a : activates ≡ has_flag m.flags 0x02 = xa ∙ ap (λ (n : ℕ). has_flag n 0x02) xg in

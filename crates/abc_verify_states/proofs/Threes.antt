@@ -12,7 +12,7 @@ use Rattle.abc_verify_typing.specs.Typing.{HasOneShape, IsJoinState, ScopeLe, St
 use Rattle.abc_verify_typing.specs.declared.state.Scope.{Scope}
 use Rattle.abc_verify_typing.specs.declared.state.State.{State}
 use Rattle.abc_verify_typing.proofs.Good.{good}
-use Rattle.abc_verify_typing.specs.Rank.{layouts, rank}
+use Rattle.abc_verify_typing.specs.Rank.{layouts, rank_of_state}
 use Rattle.abc_verify_typing.proofs.Merging.{state_join}
 use Rattle.abc_verify_flow.specs.Walking.{MergesTo}
 use Rattle.abc_verify_flow.specs.declared.step.Merged.TheVariants.{Joined}
@@ -162,5 +162,5 @@ joins p t old n j shape ne h =
       | inr r ↦ (
           let mine = is_join p old n j h in
           let e : r.0 ≡ j = state_antisym p t r.0 j (r.1.least j mine.left mine.right) (mine.least r.0 r.1.left r.1.right) in
-          (mine, subst (λ (s : State). rank (layouts p) s < rank (layouts p) old) e r.2))
+          (mine, subst (λ (s : State). rank_of_state (layouts p) s < rank_of_state (layouts p) old) e r.2))
     ]

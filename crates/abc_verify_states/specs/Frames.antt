@@ -8,8 +8,8 @@ use Rattle.abc_verify_typing.specs.declared.catch.Catch.{Catch}
 use Rattle.abc_verify_states.specs.declared.frame.Frame.{Frame}
 
 -- what the code holds of a method, as a routine
-abbrev pub routine_in : Frame → Routine
-routine_in f = record {
+abbrev pub routine_of_frame : Frame → Routine
+routine_of_frame f = record {
   filled = f.filled;
   home = f.home;
   needs_activation = f.needs_activation;

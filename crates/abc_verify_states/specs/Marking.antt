@@ -5,7 +5,7 @@ use Rattle.abc_file_types.specs.declared.code.Instr.{Instr}
 use Rattle.abc_verify_typing.specs.Routines.{Routine}
 use Rattle.abc_verify_typing.specs.Typing.{In}
 use Rattle.abc_verify_typing.specs.declared.catch.Catch.{Catch}
-use Rattle.abc_verify_flow.specs.Walking.{AreHeads, is_head}
+use Rattle.abc_verify_flow.specs.Walking.{AreWalkHeads, is_head}
 
 -- these places are marked now, all that were before, and no other
 pub record Marks (places : List ℕ) (old new : List Bool) : Type 0 where
@@ -26,4 +26,4 @@ handler_places (h ∷ hs) = h.target ∷ h.from ∷ h.to ∷ handler_places hs
 
 -- of every method with this code and these handlers
 abbrev pub AreHeadsOf : List Instr → List Catch → List Bool → Type 0
-AreHeadsOf code handlers heads = (m : Routine) → m.code ≡ code → m.handlers ≡ handlers → AreHeads m heads
+AreHeadsOf code handlers heads = (m : Routine) → m.code ≡ code → m.handlers ≡ handlers → AreWalkHeads m heads

@@ -34,7 +34,8 @@ fn is_at_most<T: Tree>(tree: &T, a: Kind, b: Kind) -> bool
 
 /// Whether the operand at a depth is at most another.
 fn is_operand_at_most<T: Tree>(tree: &T, a: &Stack<Kind>, b: &Stack<Kind>, depth: usize) -> bool
-    ensures { IsTrue result ↔ IsAtMost (T.file tree.now) (get_or a.now depth kinds.Any) (get_or b.now depth kinds.Any) }
+    ensures { IsTrue result
+        ↔ IsAtMost (T.file tree.now) (get_or a.now depth kinds.Any) (get_or b.now depth kinds.Any) }
 {
     let x = a.get_or(depth, Kind::Any);
     let y = b.get_or(depth, Kind::Any);
@@ -59,7 +60,8 @@ fn is_stack_at_most<T: Tree>(tree: &T, a: &Stack<Kind>, b: &Stack<Kind>) -> bool
 fn is_local_at_most<T: Tree>(tree: &T, a: &Table<Kind>, b: &Table<Kind>, place: usize) -> bool
     requires first { place < length a.now }
     requires second { place < length b.now }
-    ensures { IsTrue result ↔ IsAtMost (T.file tree.now) (get_or a.now place kinds.Any) (get_or b.now place kinds.Any) }
+    ensures { IsTrue result
+        ↔ IsAtMost (T.file tree.now) (get_or a.now place kinds.Any) (get_or b.now place kinds.Any) }
 {
     let x = a.get(place);
     let y = b.get(place);
@@ -92,7 +94,8 @@ fn is_scope_at_most<T: Tree>(tree: &T, a: Scope, b: Scope) -> bool
 
 /// Whether the scope at a place is at most another.
 fn is_scope_at_most_at<T: Tree>(tree: &T, a: &Table<Scope>, b: &Table<Scope>, place: usize) -> bool
-    ensures { IsTrue result ↔ ScopeLe (T.file tree.now) (get_or a.now place no_scope) (get_or b.now place no_scope) }
+    ensures { IsTrue result
+        ↔ ScopeLe (T.file tree.now) (get_or a.now place no_scope) (get_or b.now place no_scope) }
 {
     let x = at_or(a, place, NO_SCOPE);
     let y = at_or(b, place, NO_SCOPE);

@@ -1,5 +1,5 @@
 ghost use Rattle.std.specs.Prelude.{◌≡◌, ◌++◌, IfOk, OnOk, length};
-ghost use Rattle.abc_verify_typing.specs.Routines.{catches};
+ghost use Rattle.abc_verify_typing.specs.Routines.{catches_from};
 ghost use Rattle.abc_verify_states.specs.Frames.{catch_in};
 
 use crate::lookup::type_or_any;
@@ -34,7 +34,7 @@ fn push_catches(
     count: u32,
 ) -> Result<(), NoMemory>
     requires { count ≡ length handlers.now }
-    ensures { OnOk result (list.new ≡ list.old ++ catches linked.now body 0 handlers.now) }
+    ensures { OnOk result (list.new ≡ list.old ++ catches_from linked.now body 0 handlers.now) }
 {
     for number in 0..count {
         let caught = catch_of(linked, body, number, handlers.get(number as usize));
@@ -50,7 +50,7 @@ pub(crate) fn catches_of(
     body: u32,
     handlers: &Table<Handler>,
 ) -> Result<Table<Catch>, NoMemory>
-    ensures { IfOk result (λ t. t ≡ catches linked.now body 0 handlers.now) }
+    ensures { IfOk result (λ t. t ≡ catches_from linked.now body 0 handlers.now) }
 {
     let count = handlers.len();
     if count > u32::MAX as usize {

@@ -1,7 +1,7 @@
 ghost use Rattle.std.specs.Prelude.{◌≡◌, ◌++◌, IfOk, replicate, take};
 ghost use Rattle.abc_link_names.specs.declared.types.Kind.TheVariants as kinds;
 ghost use Rattle.abc_verify_typing.specs.Typing.{entry};
-ghost use Rattle.abc_verify_states.specs.Frames.{routine_in};
+ghost use Rattle.abc_verify_states.specs.Frames.{routine_of_frame};
 
 use crate::frame::Frame;
 use abc_base::{NoMemory, Table};
@@ -22,7 +22,7 @@ fn first_locals(alloc: Global, filled: &Table<Kind>, count: u32) -> Result<Table
 
 /// The state that a method begins with.
 pub fn entry_of(alloc: Global, frame: &Frame<'_>) -> Result<State, NoMemory>
-    ensures { IfOk result (λ s. s ≡ entry (routine_in frame.now)) }
+    ensures { IfOk result (λ s. s ≡ entry (routine_of_frame frame.now)) }
 {
     let stack = Stack::new(alloc);
     let scopes = Table::new(alloc);

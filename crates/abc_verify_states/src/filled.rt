@@ -1,7 +1,7 @@
 ghost use Rattle.std.specs.Prelude.{◌≡◌, ◌++◌, IfOk, OnOk, map};
 ghost use Rattle.abc_link_names.specs.Owners.{owner_of};
 ghost use Rattle.abc_link_names.specs.PartsByNumber.{method_at};
-ghost use Rattle.abc_verify_typing.specs.Routines.{arrays, filled_by, object_of, or_any, takes_array as takes_array_by, this_kind, type_at};
+ghost use Rattle.abc_verify_typing.specs.Routines.{arrays, filled_by, kind_of_part, or_any, takes_array as takes_array_by, this_kind, type_at};
 
 use crate::lookup::type_or_any;
 use abc_base::{HostClass, NoMemory, Table};
@@ -12,7 +12,7 @@ use std::alloc::Global;
 
 /// The kind of the objects of a part's layout.
 fn part_kind(linked: &Linked, part: Part) -> Kind
-    ensures { result ≡ object_of linked.now part }
+    ensures { result ≡ kind_of_part linked.now part }
 {
     Kind::Obj(linked.layout_of(part))
 }
@@ -90,7 +90,8 @@ pub(crate) fn filled_of(
     linked: &Linked,
     method: u32,
 ) -> Result<Table<Kind>, NoMemory>
-    ensures { IfOk result (λ t. t ≡ filled_by linked.now (owner_of linked.now.file method) (method_at linked.now.file method)) }
+    ensures { IfOk result
+        (λ t. t ≡ filled_by linked.now (owner_of linked.now.file method) (method_at linked.now.file method)) }
 {
     let whose = linked.owner(method);
     let this = kind_of_this(linked, whose);

@@ -1,10 +1,10 @@
 ghost use Rattle.std.specs.Prelude.{◌≡◌, ◌<◌, ◌-◌, IfOk, if◌then◌else◌, length};
 ghost use Rattle.abc_link_names.specs.Owners.{owner_of};
 ghost use Rattle.abc_link_names.specs.PartsByNumber.{body_at, method_at};
-ghost use Rattle.abc_verify_typing.specs.Routines.{has_base, home_of, is_unsupported as is_unsupported_by, routine, routine_of};
+ghost use Rattle.abc_verify_typing.specs.Routines.{has_base, home_of, is_unsupported as is_unsupported_by, routine, routine_with};
 ghost use Rattle.abc_verify_typing.specs.declared.home.Home.TheVariants as homes;
 ghost use Rattle.abc_link_names.specs.Instances.{instance_at};
-ghost use Rattle.abc_verify_states.specs.Frames.{routine_in};
+ghost use Rattle.abc_verify_states.specs.Frames.{routine_of_frame};
 
 use crate::catches::catches_of;
 use crate::filled::{filled_of, flags_of};
@@ -101,7 +101,9 @@ fn frame_in<'a>(
     number: u32,
     body: &'a Body,
 ) -> Result<Frame<'a>, NoMemory>
-    ensures { IfOk result (λ f. routine_in f ≡ routine_of linked.now number body.now (method_at linked.now.file body.now.method) (owner_of linked.now.file body.now.method)) }
+    ensures { IfOk result (λ f. routine_of_frame f
+        ≡ routine_with linked.now number body.now (method_at linked.now.file body.now.method)
+        (owner_of linked.now.file body.now.method)) }
 {
     let filled = filled_of(alloc, linked, body.method)?;
     let handlers = catches_of(alloc, linked, number, &body.handlers)?;
@@ -138,7 +140,7 @@ fn body_numbered(linked: &Linked, body: u32) -> &Body
 /// more, for which there is never room.
 pub fn frame_of(alloc: Global, linked: &Linked, body: u32) -> Result<Frame<'_>, NoMemory>
     requires { body < length linked.now.file.bodies }
-    ensures { IfOk result (λ f. routine_in f ≡ routine linked.now body) }
+    ensures { IfOk result (λ f. routine_of_frame f ≡ routine linked.now body) }
 {
     let found = body_numbered(linked, body);
     let frame = frame_in(alloc, linked, body, found)?;

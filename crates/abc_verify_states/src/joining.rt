@@ -99,7 +99,8 @@ fn join_scope<T: Tree>(tree: &T, a: Scope, b: Scope) -> Scope
 /// The join of the scopes at a place.
 fn join_scopes_at<T: Tree>(tree: &T, a: &Table<Scope>, b: &Table<Scope>, place: usize) -> Scope
     requires { HasOneFlag (get_or a.now place no_scope) (get_or b.now place no_scope) }
-    ensures { IsJoinScope (T.file tree.now) (get_or a.now place no_scope) (get_or b.now place no_scope) result }
+    ensures { IsJoinScope (T.file tree.now) (get_or a.now place no_scope) (get_or b.now place no_scope)
+        result }
 {
     let x = at_or(a, place, NO_SCOPE);
     let y = at_or(b, place, NO_SCOPE);

@@ -1,6 +1,6 @@
 ghost use Rattle.std.specs.Prelude.{◌≡◌};
 ghost use Rattle.abc_verify_typing.specs.Effects.{nullable, scope_kind, slot_kind, sum_kind};
-ghost use Rattle.abc_verify_typing.specs.Rules.{has_slot, is_instance, is_namespace, is_number, is_object};
+ghost use Rattle.abc_verify_typing.specs.Rules.{has_slot, is_instance_of_layout, is_namespace, is_kind_number, is_object};
 
 use crate::lookup::{fixed_kind, is_under, slot_kind};
 use abc_link::Linked;
@@ -52,7 +52,7 @@ pub fn kind_of_scope(linked: &Linked, kind: Kind) -> Kind
 
 /// Whether a kind is a number's.
 pub fn is_number_kind(kind: Kind) -> bool
-    ensures { result ≡ is_number kind }
+    ensures { result ≡ is_kind_number kind }
 {
     match kind {
         Kind::Num => true,
@@ -83,7 +83,7 @@ pub fn is_object_kind(kind: Kind) -> bool
 
 /// Whether a kind is at most that of the instances of a layout.
 pub fn is_instance_kind(linked: &Linked, layout: Option<LayoutId>, kind: Kind) -> bool
-    ensures { result ≡ is_instance linked.now layout kind }
+    ensures { result ≡ is_instance_of_layout linked.now layout kind }
 {
     match (layout, kind) {
         (None, _) => true,

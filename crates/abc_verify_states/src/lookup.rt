@@ -3,9 +3,9 @@ ghost use Rattle.abc_base.specs.declared.names.HostClass.TheVariants as hosts;
 ghost use Rattle.abc_link_names.specs.Linked.{IsLayout};
 ghost use Rattle.abc_link_names.specs.Slots.{slots_of};
 ghost use Rattle.abc_link_names.specs.declared.part.Part.TheVariants as parts;
-ghost use Rattle.abc_verify_typing.specs.Effects.{fixed, slot, slot_in};
-ghost use Rattle.abc_verify_typing.specs.Routines.{object_of, or_any, type_at};
-ghost use Rattle.abc_verify_typing.specs.Rules.{is_free, is_function, reaches};
+ghost use Rattle.abc_verify_typing.specs.Effects.{kind_of_row, slot_kind_at, slot_kind_in};
+ghost use Rattle.abc_verify_typing.specs.Routines.{kind_of_part, or_any, type_at};
+ghost use Rattle.abc_verify_typing.specs.Rules.{is_free_owner, is_function, reaches};
 
 use abc_base::HostClass;
 use abc_kinds::{is_below, kind_of_type};
@@ -15,7 +15,7 @@ use abc_verify_typing::RowKind;
 
 /// The kind of the instances of a class of the host.
 fn host_kind(linked: &Linked, host: HostClass) -> Kind
-    ensures { result ≡ object_of linked.now (parts.Host host) }
+    ensures { result ≡ kind_of_part linked.now (parts.Host host) }
 {
     Kind::Obj(linked.layout_of(Part::Host(host)))
 }
@@ -23,7 +23,7 @@ fn host_kind(linked: &Linked, host: HostClass) -> Kind
 /// The kind of the instances of Object, whose layout is the first.
 #[tactic(auto, using(crate::proofs::Slots::object_first))]
 fn object_kind(linked: &Linked) -> Kind
-    ensures { result ≡ object_of linked.now (parts.Host hosts.Object) }
+    ensures { result ≡ kind_of_part linked.now (parts.Host hosts.Object) }
 {
     linked.linked_law();
     Kind::Obj(LayoutId(0))
@@ -31,7 +31,7 @@ fn object_kind(linked: &Linked) -> Kind
 
 /// The kind that a row names.
 pub fn fixed_kind(linked: &Linked, kind: RowKind) -> Kind
-    ensures { result ≡ fixed linked.now kind }
+    ensures { result ≡ kind_of_row linked.now kind }
 {
     match kind {
         RowKind::Any => Kind::Any,
@@ -70,7 +70,7 @@ pub fn type_or_any(linked: &Linked, name: u32) -> Kind
 /// The kind of the slot of a layout at a place among its slots.
 fn slot_at(linked: &Linked, layout: LayoutId, place: Option<u32>) -> Option<Kind>
     requires { IsLayout linked.now layout }
-    ensures { result ≡ slot_in linked.now (slots_of linked.now layout.0) place }
+    ensures { result ≡ slot_kind_in linked.now (slots_of linked.now layout.0) place }
 {
     let place = place?;
     match linked.slots(layout).find(place as usize) {
@@ -82,7 +82,7 @@ fn slot_at(linked: &Linked, layout: LayoutId, place: Option<u32>) -> Option<Kind
 /// The kind of the slot of a number, or `None` where the layout has none of that number.
 #[tactic(auto, using(crate::proofs::Slots::no_slot_past))]
 pub fn slot_kind(linked: &Linked, layout: LayoutId, number: u32) -> Option<Kind>
-    ensures { result ≡ slot linked.now layout.0 number }
+    ensures { result ≡ slot_kind_at linked.now layout.0 number }
 {
     linked.linked_law();
     if layout.0 >= linked.layouts() {
@@ -93,7 +93,7 @@ pub fn slot_kind(linked: &Linked, layout: LayoutId, number: u32) -> Option<Kind>
 
 /// Whether a method is one that no one owns.
 fn is_free_method(owner: Owner) -> bool
-    ensures { result ≡ is_free owner }
+    ensures { result ≡ is_free_owner owner }
 {
     match owner {
         Owner::Free => true,

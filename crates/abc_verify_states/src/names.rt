@@ -1,6 +1,6 @@
 ghost use Rattle.std.specs.Prelude.{◌≡◌, Some};
-ghost use Rattle.abc_verify_typing.specs.Effects.{name_at, runtime};
-ghost use Rattle.abc_verify_typing.specs.Rules.{has_form, is_name, is_plain};
+ghost use Rattle.abc_verify_typing.specs.Effects.{multiname_at, runtime};
+ghost use Rattle.abc_verify_typing.specs.Rules.{has_form, is_static_name, is_plain_multiname};
 ghost use Rattle.abc_verify_states.specs.Needs.{parts_of};
 
 use crate::lookup::type_kind;
@@ -17,7 +17,7 @@ pub struct Parts {
 
 /// A name without parts at run time, with a text and no attribute.
 fn is_plain_one(name: &Multiname) -> bool
-    ensures { result ≡ is_plain (Some name.now) }
+    ensures { result ≡ is_plain_multiname (Some name.now) }
 {
     match name {
         Multiname::QName { attr, ns: _, name } => !*attr && *name > 0,
@@ -31,7 +31,7 @@ fn is_plain_one(name: &Multiname) -> bool
 
 /// A name that is no attribute, has no parameters, and has a text where it needs one.
 fn is_good_one(name: &Multiname) -> bool
-    ensures { result ≡ is_name (Some name.now) }
+    ensures { result ≡ is_static_name (Some name.now) }
 {
     match name {
         Multiname::Rt { attr, name } => !*attr && *name > 0,
@@ -77,7 +77,7 @@ fn parts_of_one(name: &Multiname) -> Parts
 
 /// Whether a number names a name without parts at run time.
 fn is_plain_name(linked: &Linked, name: u32) -> bool
-    ensures { result ≡ is_plain (name_at linked.now name) }
+    ensures { result ≡ is_plain_multiname (multiname_at linked.now name) }
 {
     if name == 0 {
         return false;
@@ -90,7 +90,7 @@ fn is_plain_name(linked: &Linked, name: u32) -> bool
 
 /// Whether a number names a name that code may use.
 fn is_good_name(linked: &Linked, name: u32) -> bool
-    ensures { result ≡ is_name (name_at linked.now name) }
+    ensures { result ≡ is_static_name (multiname_at linked.now name) }
 {
     if name == 0 {
         return false;
@@ -104,7 +104,7 @@ fn is_good_name(linked: &Linked, name: u32) -> bool
 /// The parts that a name takes at run time; none where the number names nothing.
 #[inline(never)]
 pub fn parts_of_name(linked: &Linked, name: u32) -> Parts
-    ensures { parts_of result ≡ runtime (name_at linked.now name) }
+    ensures { parts_of result ≡ runtime (multiname_at linked.now name) }
 {
     if name == 0 {
         return Parts {

@@ -1,5 +1,5 @@
 ghost use Rattle.std.specs.Prelude.{◌≡◌};
-ghost use Rattle.abc_verify_typing.specs.Instructions.{local, second};
+ghost use Rattle.abc_verify_typing.specs.Instructions.{local, second_local};
 ghost use Rattle.abc_verify_typing.specs.Rules.{has_locals, may_pop, may_push, super_layout};
 
 use abc_file_types::Instr;

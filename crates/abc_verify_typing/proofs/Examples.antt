@@ -8,9 +8,9 @@ use Rattle.abc_link_names.specs.declared.types.Kind.TheVariants.{Bool as Truth, 
 use Rattle.abc_verify_typing.specs.declared.rule.VerifyRule.{VerifyRule}
 use Rattle.abc_verify_typing.specs.declared.rule.VerifyRule.TheVariants as rules
 use Rattle.abc_verify_typing.specs.declared.state.State.{State}
-use Rattle.abc_verify_typing.specs.Examples.{RefutesInit, RuleExamples, TypedExamples, small}
+use Rattle.abc_verify_typing.specs.Examples.{RefutesInit, VerifyRuleExamples, TypedExamples, small}
 use Rattle.abc_verify_typing.specs.Routines.{Routine, routine}
-use Rattle.abc_verify_typing.specs.Rows.{row_at, table}
+use Rattle.abc_verify_typing.specs.Rows.{row_at, table_of_rows}
 use Rattle.abc_verify_typing.specs.Rules.{broken, follows}
 use Rattle.abc_verify_typing.specs.Typing.{Broken, Derivable, Entry, HasOneShape, HasTyping, In, Next, Refutes, Unmerged, entry}
 use Rattle.abc_verify_typing.proofs.Order.{state_self}
@@ -65,7 +65,7 @@ abbrev with_this : LinkedFile → State
 with_this l = record (begun l) { stack = (begun l).locals }
 
 pub typed_examples : TypedExamples
-unfolding row_at table
+unfolding row_at table_of_rows
 typed_examples = record {
   returns = let l = small (Plain 0x47 ∷ []) in typed_by l (routine l 0) (Some (begun l) ∷ []) refl ((refl, tt), tt);
   loops = let l = small (Plain 0x09 ∷ Plain 0xd0 ∷ Plain 0x29 ∷ Branch 0x10 0 ∷ []) in typed_by l (routine l 0) (Some (begun l) ∷ Some (begun l) ∷ Some (with_this l) ∷ Some (begun l) ∷ []) refl ((refl, (refl, tt)), ((refl, (refl, tt)), ((refl, (refl, tt)), ((refl, (refl, tt)), tt))));
@@ -163,11 +163,11 @@ other_shape : HasOneShape with_null (entry (routine two_ways 0)) → ⊥
 other_shape h = let e : ◌≡◌ {A = ℕ} 1 0 = h.stack in omega (arith, e)
 
 unmerged : RefutesInit two_ways 3 rules.Merge
-unfolding row_at table way
+unfolding row_at table_of_rows way
 unmerged = Unmerged with_null (entry (routine two_ways 0)) (derived _ _ (0 ∷ 0 ∷ 0 ∷ []) 3 with_null refl) (derived _ _ (1 ∷ 0 ∷ []) 3 (entry (routine two_ways 0)) refl) other_shape refl
 
-pub rule_examples : RuleExamples
-unfolding row_at table way
+pub rule_examples : VerifyRuleExamples
+unfolding row_at table_of_rows way
 rule_examples = record {
   not_run = refuted _ [] _ _ refl;
   pool_index = refuted _ [] _ _ refl;

@@ -12,8 +12,8 @@ use Rattle.abc_verify_typing.specs.Routines.{Routine}
 use Rattle.abc_verify_typing.specs.declared.state.Scope.{Scope}
 use Rattle.abc_verify_typing.specs.declared.state.State.{State}
 use Rattle.abc_verify_typing.specs.Typing.{ScopeLe, StateLe, HasOneFlag, HasOneShape, IsJoinState}
-use Rattle.abc_verify_typing.specs.Standing.{IsSized}
-use Rattle.abc_verify_typing.specs.Rank.{tally, scope_height, rank, top, ListJoined, ItemJoined}
+use Rattle.abc_verify_typing.specs.Standing.{IsWithinSizes}
+use Rattle.abc_verify_typing.specs.Rank.{tally, scope_height, rank_of_state, top_rank, ListJoined, ItemJoined}
 
 list_join : {X : Type 0} (R : X → X → Type 0) (ok : X → X → Type 0) (f : X → ℕ) → ((x y : X) → ok x y → (j : X) × ItemJoined R f x y j) → (xs ys : List X) → Each2 ok xs ys → (js : List X) × ListJoined R f xs ys js
 list_join R ok f one [] [] h = ([], record { left = tt; right = tt; least = λ ks p q. p; rises = inl refl })
@@ -54,13 +54,13 @@ module _ (p : LinkedFile) (t : IsGood p) (n : ℕ) (pos : 0 < n) (long : length 
       (j, record { left = record { kind = r.1.join.left; flag = refl }; right = record { kind = r.1.join.right; flag = sym e }; least = λ k a b. record { kind = r.1.join.least k.kind a.kind b.kind; flag = a.flag }; rises = elim r.1.rises [ inl q ↦ inl (ap (λ (k : Kind). record { kind = k; is_with = x.is_with }) q) | inr lt ↦ inr lt ] })
 
   -- the second is at most the first, or their join has less to rise
-  pub state_join : (s u : State) → HasOneShape s u → StateLe p u s ⊎ ((j : State) × IsJoinState p s u j × (rank n j < rank n s))
+  pub state_join : (s u : State) → HasOneShape s u → StateLe p u s ⊎ ((j : State) × IsJoinState p s u j × (rank_of_state n j < rank_of_state n s))
   state_join s u h = go (list_join _ _ _ one_kind s.stack u.stack (always _ _ h.stack)) (list_join _ _ _ one_scope s.scopes u.scopes h.scopes) (list_join _ _ _ one_kind s.locals u.locals (always _ _ h.locals))
     where
       made : (a : (js : List Kind) × ListJoined (IsAtMost p) (height n) s.stack u.stack js) (b : (js : List Scope) × ListJoined (ScopeLe p) (scope_height n) s.scopes u.scopes js) (c : (js : List Kind) × ListJoined (IsAtMost p) (height n) s.locals u.locals js) → IsJoinState p s u (record { stack = a.0; scopes = b.0; locals = c.0 })
       made a b c = record { left = record { stack = a.1.left; scopes = b.1.left; locals = c.1.left }; right = record { stack = a.1.right; scopes = b.1.right; locals = c.1.right }; least = λ k x y. record { stack = a.1.least k.stack x.stack y.stack; scopes = b.1.least k.scopes x.scopes y.scopes; locals = c.1.least k.locals x.locals y.locals } }
 
-      go : (a : (js : List Kind) × ListJoined (IsAtMost p) (height n) s.stack u.stack js) (b : (js : List Scope) × ListJoined (ScopeLe p) (scope_height n) s.scopes u.scopes js) (c : (js : List Kind) × ListJoined (IsAtMost p) (height n) s.locals u.locals js) → StateLe p u s ⊎ ((j : State) × IsJoinState p s u j × (rank n j < rank n s))
+      go : (a : (js : List Kind) × ListJoined (IsAtMost p) (height n) s.stack u.stack js) (b : (js : List Scope) × ListJoined (ScopeLe p) (scope_height n) s.scopes u.scopes js) (c : (js : List Kind) × ListJoined (IsAtMost p) (height n) s.locals u.locals js) → StateLe p u s ⊎ ((j : State) × IsJoinState p s u j × (rank_of_state n j < rank_of_state n s))
       go a b c = elim a.1.rises [
         | inr lt ↦ inr (
           record { stack = a.0; scopes = b.0; locals = c.0 },
@@ -94,7 +94,7 @@ module _ (p : LinkedFile) (t : IsGood p) (n : ℕ) (pos : 0 < n) (long : length 
   tally_most f h (x ∷ xs) zero le = absurd (omega arith)
   tally_most f h (x ∷ xs) (suc size) le = let a = h x in let b = tally_most f h xs size (omega arith) in grind (arith, a, b)
 
-  pub rank_most : (m : Routine) (s : State) → IsSized m s → rank n s ≤ top n m
+  pub rank_most : (m : Routine) (s : State) → IsWithinSizes m s → rank_of_state n s ≤ top_rank n m
   rank_most m s z =
       let a = tally_most (height n) height_most s.stack m.max_stack z.stack in
       let b = tally_most (scope_height n) (λ x. height_most x.kind) s.scopes m.scope_size z.scopes in

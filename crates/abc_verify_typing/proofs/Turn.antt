@@ -7,7 +7,7 @@ use Rattle.abc_link_names.specs.Linked.{LinkedFile}
 use Rattle.abc_verify_typing.specs.Routines.{Routine}
 use Rattle.abc_verify_typing.specs.declared.state.State.{State}
 use Rattle.abc_verify_typing.specs.Typing.{StateLe, In, entry, Derivable, Entry}
-use Rattle.abc_verify_typing.specs.Work.{at, Landed, Runs, Halts, Goes, weight, total, Advances, AreDerived, AtHeads, IsUnderWay}
+use Rattle.abc_verify_typing.specs.Work.{at, Landed, RunsOn, Halts, Goes, weight, total_rank, Advances, AreDerived, AtHeads, IsUnderWay}
 use Rattle.abc_verify_typing.proofs.Order.{state_self, state_trans}
 
 pub at-set_same : (a : List (Option State)) (t : ℕ) (o : Option State) → t < length a → at (set a t o) t ≡ o
@@ -22,7 +22,7 @@ at-set_other (x ∷ a) (suc t) zero o ne = refl
 at-set_other (x ∷ a) (suc t) (suc i) o ne = at-set_other a t i o (λ e. ne (ap suc e))
 at-set_other [] t i o ne = refl
 
-total-set : (rank : State → ℕ) (top : ℕ) (a : List (Option State)) (t : ℕ) (o : Option State) → t < length a → total rank top (set a t o) + weight rank top (at a t) ≡ total rank top a + weight rank top o
+total-set : (rank : State → ℕ) (top : ℕ) (a : List (Option State)) (t : ℕ) (o : Option State) → t < length a → total_rank rank top (set a t o) + weight rank top (at a t) ≡ total_rank rank top a + weight rank top o
 total-set rank top (x ∷ a) zero o h = omega arith
 total-set rank top (x ∷ a) (suc t) o h = let e = total-set rank top a t o (omega arith) in omega arith
 total-set rank top [] t o h = absurd (omega arith)
@@ -63,12 +63,12 @@ module _ (p : LinkedFile) (rank : State → ℕ) (top : ℕ) (head : ℕ → Boo
 pub raise_derives : (p : LinkedFile) (m : Routine) (a : List (Option State)) (t : ℕ) (s : State) → t < length a → AreDerived p m a → Derivable p m t s → AreDerived p m (set a t (Some s))
 raise_derives p m a t s h d n i u e = elim (cases_eq i t) [ inl q ↦ (let r : s ≡ u = (let f : Some s ≡ Some u = sym (at-set_same a t (Some s) h) ∙ ap (at (set a t (Some s))) (sym q) ∙ e in cc) in subst (λ x. Derivable p m x u) (sym q) (subst (Derivable p m t) r n)) | inr ne ↦ d i u (sym (at-set_other a t i (Some s) ne) ∙ e) ]
 
-pub runs_on : (p : LinkedFile) (m : Routine) (rank : State → ℕ) (top : ℕ) (head : ℕ → Bool) (a b : List (Option State)) (v w : List ℕ) → Advances p rank top head a v b w → (i : ℕ) (s : State) → Runs p m head a i s → Runs p m head b i s
+pub runs_on : (p : LinkedFile) (m : Routine) (rank : State → ℕ) (top : ℕ) (head : ℕ → Bool) (a b : List (Option State)) (v w : List ℕ) → Advances p rank top head a v b w → (i : ℕ) (s : State) → RunsOn p m head a i s → RunsOn p m head b i s
 runs_on p m rank top head a b v w g i s (Halts i' s' fine all) = Halts i' s' fine (λ t n f. lands_on p rank top head a b v w g t n (all t n f))
 runs_on p m rank top head a b v w g i s (Goes i' s' n fine off all rest) = Goes i' s' n fine off (λ t u f. elim (all t u f) [ inl l ↦ inl (lands_on p rank top head a b v w g t u l) | inr q ↦ inr q ]) (runs_on p m rank top head a b v w g (suc i') n rest)
 
 -- one place was taken from the work, and its state now runs on
-pub turn : (p : LinkedFile) (m : Routine) (rank : State → ℕ) (top : ℕ) (head : ℕ → Bool) (a c : List (Option State)) (i : ℕ) (v w : List ℕ) → IsUnderWay p m head a (i ∷ v) → Advances p rank top head a v c w → ((s : State) → at a i ≡ Some s → Runs p m head c i s) → AreDerived p m c → IsUnderWay p m head c w
+pub turn : (p : LinkedFile) (m : Routine) (rank : State → ℕ) (top : ℕ) (head : ℕ → Bool) (a c : List (Option State)) (i : ℕ) (v w : List ℕ) → IsUnderWay p m head a (i ∷ v) → Advances p rank top head a v c w → ((s : State) → at a i ≡ Some s → RunsOn p m head c i s) → AreDerived p m c → IsUnderWay p m head c w
 turn p m rank top head a c i v w u g f d =
     record {
       long = g.long ∙ u.long;
@@ -78,12 +78,12 @@ turn p m rank top head a c i v w u g f d =
       heads = heads_on p rank top head a c v w g u.heads;
     }
   where
-    was : (j : ℕ) (s : State) → at a j ≡ Some s → In j (i ∷ v) ⊎ Runs p m head a j s → In j w ⊎ Runs p m head c j s
+    was : (j : ℕ) (s : State) → at a j ≡ Some s → In j (i ∷ v) ⊎ RunsOn p m head a j s → In j w ⊎ RunsOn p m head c j s
     was j s e (inr h) = inr (runs_on p m rank top head a c v w g j s h)
     was j s e (inl (inr h)) = inl (g.keeps j h)
-    was j s e (inl (inl q)) = inr (subst (λ k. Runs p m head c k s) (sym q) (f s (ap (at a) (sym q) ∙ e)))
+    was j s e (inl (inl q)) = inr (subst (λ k. RunsOn p m head c k s) (sym q) (f s (ap (at a) (sym q) ∙ e)))
 
-    settled : (j : ℕ) (s : State) → at c j ≡ Some s → In j w ⊎ Runs p m head c j s
+    settled : (j : ℕ) (s : State) → at c j ≡ Some s → In j w ⊎ RunsOn p m head c j s
     settled j s e = elim (g.marks j) [ inr h ↦ inl h.0 | inl q ↦ (let r : at a j ≡ Some s = sym q ∙ e in was j s r (u.settled j s r)) ]
 
 at-blank : (n i : ℕ) → at (replicate n None) i ≡ None

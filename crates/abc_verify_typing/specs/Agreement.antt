@@ -23,17 +23,17 @@ abbrev pub not_run : List ℕ
 not_run = op.DXNS ∷ op.DXNSLATE ∷ op.CALLMETHOD ∷ op.CALLSTATIC ∷ op.APPLYTYPE ∷ op.GETDESCENDANTS ∷ op.GETGLOBALSLOT ∷ op.SETGLOBALSLOT ∷ op.ESC_XELEM ∷ op.ESC_XATTR ∷ op.CHECKFILTER ∷ []
 
 -- the pool that an operand names
-abbrev pub pool_of : Operand → Pool
-pool_of StringAt = pools.Text
-pool_of IntAt = pools.Int
-pool_of UintAt = pools.UInt
-pool_of DoubleAt = pools.Double
-pool_of NamespaceAt = pools.Space
-pool_of NameAt = pools.Name
-pool_of PlainNameAt = pools.Name
-pool_of TypeAt = pools.Name
-pool_of TypeOrAny = pools.Name
-pool_of operand = pools.NoPool
+abbrev pub pool_of_operand : Operand → Pool
+pool_of_operand StringAt = pools.Text
+pool_of_operand IntAt = pools.Int
+pool_of_operand UintAt = pools.UInt
+pool_of_operand DoubleAt = pools.Double
+pool_of_operand NamespaceAt = pools.Space
+pool_of_operand NameAt = pools.Name
+pool_of_operand PlainNameAt = pools.Name
+pool_of_operand TypeAt = pools.Name
+pool_of_operand TypeOrAny = pools.Name
+pool_of_operand operand = pools.NoPool
 
 abbrev same_pool : Pool → Pool → Bool
 same_pool pools.NoPool pools.NoPool = true
@@ -99,7 +99,7 @@ abbrev agrees_in : ℕ → Option Shape → Option OpInfo → Bool
 agrees_in op None None = true
 agrees_in op (Some row) None = false
 agrees_in op None (Some info) = is_in op not_run
-agrees_in op (Some row) (Some info) = fits_form row info.form && same_pool (pool_of row.operand) info.pool
+agrees_in op (Some row) (Some info) = fits_form row info.form && same_pool (pool_of_operand row.operand) info.pool
 
 -- an instruction has a row whose operands are those of its form and pool, or is not run; what is no instruction has no row
 unfoldable pub agrees : ℕ → Bool

@@ -30,43 +30,43 @@ init_file flags body = record empty {
 }
 
 -- the layouts of the host and of the script's global object
-abbrev pub init : (flags : ℕ) → Body → LinkedFile
-init flags body = record {
+abbrev pub init_of_flags : (flags : ℕ) → Body → LinkedFile
+init_of_flags flags body = record {
   file = init_file flags body;
   parts = map (λ c. parts.Host c) host_classes
       ++ map (λ c. parts.HostClassObject c) host_classes ++ parts.Global 0 ∷ [];
 }
 
 -- at most 2 values, so many locals, and one scope
-abbrev pub body : (locals : ℕ) → List Instr → Body
-body locals code = record { method = 0; max_stack = 2; local_count = locals; init_scope = 0; max_scope = 1; code = code; handlers = []; traits = [] }
+abbrev pub small_body : (locals : ℕ) → List Instr → Body
+small_body locals code = record { method = 0; max_stack = 2; local_count = locals; init_scope = 0; max_scope = 1; code = code; handlers = []; traits = [] }
 
 abbrev pub small : List Instr → LinkedFile
-small code = init 0 (body 1 code)
+small code = init_of_flags 0 (small_body 1 code)
 
 -- at this place of its code the method is refuted by the rule
 abbrev pub RefutesInit : LinkedFile → ℕ → VerifyRule → Type 0
 RefutesInit l i r = Refutes l (routine l 0) i r
 
-abbrev pub IsTyped : LinkedFile → Type 0
-IsTyped l = HasTyping l (routine l 0)
+abbrev pub IsExampleTyped : LinkedFile → Type 0
+IsExampleTyped l = HasTyping l (routine l 0)
 
 -- ---- what is typed
 
 -- Methods that have a typing.
 pub record TypedExamples : Type 0 where
-  pub returns : IsTyped (small (Plain op.RETURNVOID ∷ []))
+  pub returns : IsExampleTyped (small (Plain op.RETURNVOID ∷ []))
   -- label, getlocal_0, pop, and a jump to the label
-  pub loops : IsTyped (small (Plain op.LABEL ∷ Plain op.GETLOCAL_0 ∷ Plain op.POP ∷ Branch op.JUMP 0 ∷ []))
+  pub loops : IsExampleTyped (small (Plain op.LABEL ∷ Plain op.GETLOCAL_0 ∷ Plain op.POP ∷ Branch op.JUMP 0 ∷ []))
   -- pushtrue, iftrue to the return, nop: both ways come to the return with nothing
-  pub meets : IsTyped (small (Plain op.PUSHTRUE ∷ Branch op.IFTRUE 3 ∷ Plain op.NOP ∷ Plain op.RETURNVOID ∷ []))
+  pub meets : IsExampleTyped (small (Plain op.PUSHTRUE ∷ Branch op.IFTRUE 3 ∷ Plain op.NOP ∷ Plain op.RETURNVOID ∷ []))
   -- the return leaves what is behind it without a state, whatever stands there
-  pub dead_code : IsTyped (small (Plain op.RETURNVOID ∷ Plain op.POP ∷ []))
+  pub dead_code : IsExampleTyped (small (Plain op.RETURNVOID ∷ Plain op.POP ∷ []))
 
 -- ---- what is refuted
 
 -- Methods, each with an index and a rule that refute it.
-pub record RuleExamples : Type 0 where
+pub record VerifyRuleExamples : Type 0 where
   -- dxns
   pub not_run : RefutesInit (small (One op.DXNS 1 ∷ Plain op.RETURNVOID ∷ [])) 0 rules.NotRun
   -- pushstring 2, where there is one string
@@ -98,5 +98,5 @@ pub record RuleExamples : Type 0 where
   -- a switch by null
   pub not_index : RefutesInit (small (Plain op.PUSHNULL ∷ Switch 2 (2 ∷ []) ∷ Plain op.RETURNVOID ∷ [])) 1 rules.NotIndex
   -- no local for `this`; flag 40
-  pub parameters : RefutesInit (init 0 (body 0 (Plain op.RETURNVOID ∷ []))) 0 rules.Parameters
-  pub flags : RefutesInit (init 0x40 (body 1 (Plain op.RETURNVOID ∷ []))) 0 rules.Flags
+  pub parameters : RefutesInit (init_of_flags 0 (small_body 0 (Plain op.RETURNVOID ∷ []))) 0 rules.Parameters
+  pub flags : RefutesInit (init_of_flags 0x40 (small_body 1 (Plain op.RETURNVOID ∷ []))) 0 rules.Flags

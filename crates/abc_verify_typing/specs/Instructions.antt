@@ -25,10 +25,10 @@ operand (instrs.Debug kind name reg extra) = name
 operand i = 0
 
 -- how many arguments a call has
-abbrev pub arguments : Instr → ℕ
-arguments (instrs.One op argc) = argc
-arguments (instrs.Two op n argc) = argc
-arguments i = 0
+abbrev pub argument_count : Instr → ℕ
+argument_count (instrs.One op argc) = argc
+argument_count (instrs.Two op n argc) = argc
+argument_count i = 0
 
 -- the local that is named; the opcodes of getlocal_0 and of setlocal_0 are multiples of four
 abbrev pub local : Instr → ℕ
@@ -36,9 +36,9 @@ local (instrs.Plain op) = op % 4
 local i = operand i
 
 -- the local of hasnext2 that is an index
-abbrev pub second : Instr → ℕ
-second (instrs.Two op p q) = q
-second i = 0
+abbrev pub second_local : Instr → ℕ
+second_local (instrs.Two op p q) = q
+second_local i = 0
 
 -- the places that an instruction names
 abbrev pub targets : Instr → List ℕ

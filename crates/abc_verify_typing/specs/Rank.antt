@@ -19,11 +19,11 @@ abbrev pub layouts : LinkedFile → ℕ
 layouts p = suc (length p.parts)
 
 -- over so many layouts
-abbrev pub rank : ℕ → State → ℕ
-rank n s = tally (height n) s.stack + (tally (scope_height n) s.scopes + tally (height n) s.locals)
+abbrev pub rank_of_state : ℕ → State → ℕ
+rank_of_state n s = tally (height n) s.stack + (tally (scope_height n) s.scopes + tally (height n) s.locals)
 
-abbrev pub top : ℕ → Routine → ℕ
-top n m = (n + 2) * (m.max_stack + (m.scope_size + m.local_count))
+abbrev pub top_rank : ℕ → Routine → ℕ
+top_rank n m = (n + 2) * (m.max_stack + (m.scope_size + m.local_count))
 
 -- the least list above two, which is the first or has less to rise
 pub record ListJoined {X : Type 0} (R : X → X → Type 0) (f : X → ℕ) (xs ys js : List X) : Type 0 where

@@ -58,17 +58,17 @@ kind_if l (Some t) = Some (kind_of_type l t)
 abbrev pub type_at : LinkedFile → ℕ → Option Kind
 type_at l n = kind_if l (type_of l n)
 
-abbrev pub object_of : LinkedFile → Part → Kind
-object_of l part = Obj (layout_of l part)
+abbrev pub kind_of_part : LinkedFile → Part → Kind
+kind_of_part l part = Obj (layout_of l part)
 
 abbrev pub this_kind : LinkedFile → Owner → Kind
 this_kind l owners.Free = Any
-this_kind l (owners.ScriptInit s) = object_of l (parts.Global s)
-this_kind l (owners.ScriptMethod s) = object_of l (parts.Global s)
-this_kind l (owners.ClassInit k) = object_of l (parts.ClassObject k)
-this_kind l (owners.Static k) = object_of l (parts.ClassObject k)
-this_kind l (owners.Iinit k) = object_of l (parts.Instance k)
-this_kind l (owners.Instance k) = object_of l (parts.Instance k)
+this_kind l (owners.ScriptInit s) = kind_of_part l (parts.Global s)
+this_kind l (owners.ScriptMethod s) = kind_of_part l (parts.Global s)
+this_kind l (owners.ClassInit k) = kind_of_part l (parts.ClassObject k)
+this_kind l (owners.Static k) = kind_of_part l (parts.ClassObject k)
+this_kind l (owners.Iinit k) = kind_of_part l (parts.Instance k)
+this_kind l (owners.Instance k) = kind_of_part l (parts.Instance k)
 
 abbrev pub has_base : LinkedFile → ℕ → Bool
 has_base l k = ltb 0 (instance_at l.file k).super_name
@@ -83,7 +83,7 @@ abbrev pub takes_array : ℕ → Bool
 takes_array flags = has_flag flags 0x01 || has_flag flags 0x04
 
 abbrev pub arrays : LinkedFile → ℕ → List Kind
-arrays l flags = if takes_array flags then object_of l (parts.Host hosts.Array) ∷ [] else []
+arrays l flags = if takes_array flags then kind_of_part l (parts.Host hosts.Array) ∷ [] else []
 
 abbrev pub filled_by : LinkedFile → Owner → Method → List Kind
 filled_by l owner m = this_kind l owner ∷ (map (λ t. or_any (type_at l t)) m.params ++ arrays l m.flags)
@@ -92,12 +92,12 @@ abbrev pub is_unsupported : ℕ → Bool
 is_unsupported flags = has_flag flags 0x40 || (has_flag flags 0x01 && has_flag flags 0x04)
 
 -- the handlers of a body, from number e on
-abbrev pub catches : LinkedFile → ℕ → ℕ → List Handler → List Catch
-catches l b e [] = []
-catches l b e (h ∷ hs) = record { from = h.from; to = h.to; target = h.target; kind = or_any (type_at l h.exc_type); layout = layout_of l (parts.Catch b e) } ∷ catches l b (suc e) hs
+abbrev pub catches_from : LinkedFile → ℕ → ℕ → List Handler → List Catch
+catches_from l b e [] = []
+catches_from l b e (h ∷ hs) = record { from = h.from; to = h.to; target = h.target; kind = or_any (type_at l h.exc_type); layout = layout_of l (parts.Catch b e) } ∷ catches_from l b (suc e) hs
 
-abbrev pub routine_of : LinkedFile → ℕ → Body → Method → Owner → Routine
-routine_of l b body m owner = record {
+abbrev pub routine_with : LinkedFile → ℕ → Body → Method → Owner → Routine
+routine_with l b body m owner = record {
   filled = filled_by l owner m;
   home = home_of l owner;
   needs_activation = has_flag m.flags 0x02;
@@ -107,9 +107,9 @@ routine_of l b body m owner = record {
   local_count = body.local_count;
   scope_size = body.max_scope - body.init_scope;
   code = body.code;
-  handlers = catches l b 0 body.handlers;
+  handlers = catches_from l b 0 body.handlers;
 }
 
 -- the method that a body is of, with that body
 abbrev pub routine : LinkedFile → ℕ → Routine
-routine l b = let body = body_at l.file b in routine_of l b body (method_at l.file body.method) (owner_of l.file body.method)
+routine l b = let body = body_at l.file b in routine_with l b body (method_at l.file body.method) (owner_of l.file body.method)

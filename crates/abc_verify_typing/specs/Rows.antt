@@ -33,14 +33,14 @@ pub record Shape : Type 0 where
   pub site : Site
 
 -- the words that the table is written with
-abbrev pub row : List Need → List Source → Shape
-row takes gives = record { operand = Unnamed; args = 0; takes = takes; gives = gives; locals = Untouched; scoping = Stays; leads = Next; site = Anywhere }
+abbrev pub shape_with : List Need → List Source → Shape
+shape_with takes gives = record { operand = Unnamed; args = 0; takes = takes; gives = gives; locals = Untouched; scoping = Stays; leads = Next; site = Anywhere }
 
-abbrev pub naming : Operand → Shape → Shape
-naming operand r = record r { operand = operand }
+abbrev pub naming_shape : Operand → Shape → Shape
+naming_shape operand r = record r { operand = operand }
 
-abbrev pub with_args : ℕ → Shape → Shape
-with_args n r = record r { args = n }
+abbrev pub with_argument_count : ℕ → Shape → Shape
+with_argument_count n r = record r { args = n }
 
 abbrev pub on_locals : Locals → Shape → Shape
 on_locals locals r = record r { locals = locals }
@@ -51,16 +51,16 @@ on_scopes scoping r = record r { scoping = scoping }
 abbrev pub leading : Leads → Shape → Shape
 leading leads r = record r { leads = leads }
 
-abbrev pub only : Site → Shape → Shape
-only site r = record r { site = site }
+abbrev pub only_at : Site → Shape → Shape
+only_at site r = record r { site = site }
 
 -- one row for several opcodes
-abbrev pub each : List ℕ → Shape → List (ℕ × Shape) → List (ℕ × Shape)
-each [] r rest = rest
-each (op ∷ ops) r rest = (op, r) ∷ each ops r rest
+abbrev pub shapes_of : List ℕ → Shape → List (ℕ × Shape) → List (ℕ × Shape)
+shapes_of [] r rest = rest
+shapes_of (op ∷ ops) r rest = (op, r) ∷ shapes_of ops r rest
 
 abbrev pub makes : List Need → RowKind → Shape
-makes takes k = row takes (Fixed k ∷ [])
+makes takes k = shape_with takes (Fixed k ∷ [])
 
 abbrev pub value : List Need
 value = Value ∷ []
@@ -69,85 +69,85 @@ abbrev pub two_values : List Need
 two_values = Value ∷ Value ∷ []
 
 -- what is not in the table is not run
-unfoldable pub table : List (ℕ × Shape)
-table =
+unfoldable pub table_of_rows : List (ℕ × Shape)
+table_of_rows =
     -- nop, label, debugline; debug, debugfile
-    each (op.NOP ∷ op.LABEL ∷ op.DEBUGLINE ∷ []) (row [] [])
-    (each (op.DEBUG ∷ op.DEBUGFILE ∷ []) (naming StringAt (row [] []))
-    (each (op.THROW ∷ op.RETURNVALUE ∷ []) (leading Ends (row value []))
-    (each (op.RETURNVOID ∷ []) (leading Ends (row [] []))
+    shapes_of (op.NOP ∷ op.LABEL ∷ op.DEBUGLINE ∷ []) (shape_with [] [])
+    (shapes_of (op.DEBUG ∷ op.DEBUGFILE ∷ []) (naming_shape StringAt (shape_with [] []))
+    (shapes_of (op.THROW ∷ op.RETURNVALUE ∷ []) (leading Ends (shape_with value []))
+    (shapes_of (op.RETURNVOID ∷ []) (leading Ends (shape_with [] []))
     -- ifnlt to ifnge, ifeq to ifstrictne; iftrue, iffalse; jump; lookupswitch
-    (each (op.IFNLT ∷ op.IFNLE ∷ op.IFNGT ∷ op.IFNGE ∷ op.IFEQ ∷ op.IFNE ∷ op.IFLT ∷ op.IFLE ∷ op.IFGT ∷ op.IFGE ∷ op.IFSTRICTEQ ∷ op.IFSTRICTNE ∷ []) (leading Branches (row two_values []))
-    (each (op.IFTRUE ∷ op.IFFALSE ∷ []) (leading Branches (row value []))
-    (each (op.JUMP ∷ []) (leading Jumps (row [] []))
-    (each (op.LOOKUPSWITCH ∷ []) (leading Switches (row (Index ∷ []) []))
-    (each (op.PUSHWITH ∷ []) (on_scopes (Pushes true) (row value []))
-    (each (op.PUSHSCOPE ∷ []) (on_scopes (Pushes false) (row value []))
-    (each (op.POPSCOPE ∷ []) (on_scopes Pops (row [] []))
-    (each (op.NEXTNAME ∷ []) (makes (Index ∷ Value ∷ []) Text)
-    (each (op.HASNEXT ∷ []) (makes (Index ∷ Value ∷ []) Num)
-    (each (op.NEXTVALUE ∷ []) (makes (Index ∷ Value ∷ []) Any)
-    (each (op.HASNEXT2 ∷ []) (on_locals Walks (makes [] Truth))
+    (shapes_of (op.IFNLT ∷ op.IFNLE ∷ op.IFNGT ∷ op.IFNGE ∷ op.IFEQ ∷ op.IFNE ∷ op.IFLT ∷ op.IFLE ∷ op.IFGT ∷ op.IFGE ∷ op.IFSTRICTEQ ∷ op.IFSTRICTNE ∷ []) (leading Branches (shape_with two_values []))
+    (shapes_of (op.IFTRUE ∷ op.IFFALSE ∷ []) (leading Branches (shape_with value []))
+    (shapes_of (op.JUMP ∷ []) (leading Jumps (shape_with [] []))
+    (shapes_of (op.LOOKUPSWITCH ∷ []) (leading Switches (shape_with (Index ∷ []) []))
+    (shapes_of (op.PUSHWITH ∷ []) (on_scopes (Pushes true) (shape_with value []))
+    (shapes_of (op.PUSHSCOPE ∷ []) (on_scopes (Pushes false) (shape_with value []))
+    (shapes_of (op.POPSCOPE ∷ []) (on_scopes Pops (shape_with [] []))
+    (shapes_of (op.NEXTNAME ∷ []) (makes (Index ∷ Value ∷ []) Text)
+    (shapes_of (op.HASNEXT ∷ []) (makes (Index ∷ Value ∷ []) Num)
+    (shapes_of (op.NEXTVALUE ∷ []) (makes (Index ∷ Value ∷ []) Any)
+    (shapes_of (op.HASNEXT2 ∷ []) (on_locals Walks (makes [] Truth))
     -- pushnull, pushundefined; pushtrue, pushfalse; pushbyte, pushshort, pushnan
-    (each (op.PUSHNULL ∷ []) (makes [] Null)
-    (each (op.PUSHUNDEFINED ∷ []) (makes [] Undef)
-    (each (op.PUSHTRUE ∷ op.PUSHFALSE ∷ []) (makes [] Truth)
-    (each (op.PUSHBYTE ∷ op.PUSHSHORT ∷ op.PUSHNAN ∷ []) (makes [] Num)
-    (each (op.PUSHSTRING ∷ []) (naming StringAt (makes [] Text))
-    (each (op.PUSHINT ∷ []) (naming IntAt (makes [] Num))
-    (each (op.PUSHUINT ∷ []) (naming UintAt (makes [] Num))
-    (each (op.PUSHDOUBLE ∷ []) (naming DoubleAt (makes [] Num))
-    (each (op.PUSHNAMESPACE ∷ []) (naming NamespaceAt (makes [] Space))
-    (each (op.POP ∷ []) (row value [])
-    (each (op.DUP ∷ []) (row value (Taken 0 ∷ Taken 0 ∷ []))
-    (each (op.SWAP ∷ []) (row two_values (Taken 1 ∷ Taken 0 ∷ []))
+    (shapes_of (op.PUSHNULL ∷ []) (makes [] Null)
+    (shapes_of (op.PUSHUNDEFINED ∷ []) (makes [] Undef)
+    (shapes_of (op.PUSHTRUE ∷ op.PUSHFALSE ∷ []) (makes [] Truth)
+    (shapes_of (op.PUSHBYTE ∷ op.PUSHSHORT ∷ op.PUSHNAN ∷ []) (makes [] Num)
+    (shapes_of (op.PUSHSTRING ∷ []) (naming_shape StringAt (makes [] Text))
+    (shapes_of (op.PUSHINT ∷ []) (naming_shape IntAt (makes [] Num))
+    (shapes_of (op.PUSHUINT ∷ []) (naming_shape UintAt (makes [] Num))
+    (shapes_of (op.PUSHDOUBLE ∷ []) (naming_shape DoubleAt (makes [] Num))
+    (shapes_of (op.PUSHNAMESPACE ∷ []) (naming_shape NamespaceAt (makes [] Space))
+    (shapes_of (op.POP ∷ []) (shape_with value [])
+    (shapes_of (op.DUP ∷ []) (shape_with value (Taken 0 ∷ Taken 0 ∷ []))
+    (shapes_of (op.SWAP ∷ []) (shape_with two_values (Taken 1 ∷ Taken 0 ∷ []))
     -- getlocal and getlocal_0 to 3, setlocal and setlocal_0 to 3, kill; inclocal, declocal, inclocal_i, declocal_i
-    (each (op.GETLOCAL ∷ op.GETLOCAL_0 ∷ op.GETLOCAL_1 ∷ op.GETLOCAL_2 ∷ op.GETLOCAL_3 ∷ []) (on_locals Reads (row [] (LocalKind ∷ [])))
-    (each (op.SETLOCAL ∷ op.SETLOCAL_0 ∷ op.SETLOCAL_1 ∷ op.SETLOCAL_2 ∷ op.SETLOCAL_3 ∷ []) (on_locals (Sets (Taken 0)) (row value []))
-    (each (op.KILL ∷ []) (on_locals (Sets (Fixed Undef)) (row [] []))
-    (each (op.INCLOCAL ∷ op.DECLOCAL ∷ op.INCLOCAL_I ∷ op.DECLOCAL_I ∷ []) (on_locals (Sets (Fixed Num)) (row [] []))
-    (each (op.NEWFUNCTION ∷ []) (naming FunctionAt (makes [] Function))
-    (each (op.NEWOBJECT ∷ []) (with_args 2 (makes [] Object))
-    (each (op.NEWARRAY ∷ []) (with_args 1 (makes [] Array))
-    (each (op.NEWACTIVATION ∷ []) (only WithActivation (row [] (ActivationKind ∷ [])))
-    (each (op.NEWCLASS ∷ []) (naming ClassAt (row value (ClassObjectKind ∷ [])))
-    (each (op.NEWCATCH ∷ []) (naming HandlerAt (row [] (CatchObjectKind ∷ [])))
+    (shapes_of (op.GETLOCAL ∷ op.GETLOCAL_0 ∷ op.GETLOCAL_1 ∷ op.GETLOCAL_2 ∷ op.GETLOCAL_3 ∷ []) (on_locals Reads (shape_with [] (LocalKind ∷ [])))
+    (shapes_of (op.SETLOCAL ∷ op.SETLOCAL_0 ∷ op.SETLOCAL_1 ∷ op.SETLOCAL_2 ∷ op.SETLOCAL_3 ∷ []) (on_locals (Sets (Taken 0)) (shape_with value []))
+    (shapes_of (op.KILL ∷ []) (on_locals (Sets (Fixed Undef)) (shape_with [] []))
+    (shapes_of (op.INCLOCAL ∷ op.DECLOCAL ∷ op.INCLOCAL_I ∷ op.DECLOCAL_I ∷ []) (on_locals (Sets (Fixed Num)) (shape_with [] []))
+    (shapes_of (op.NEWFUNCTION ∷ []) (naming_shape FunctionAt (makes [] Function))
+    (shapes_of (op.NEWOBJECT ∷ []) (with_argument_count 2 (makes [] Object))
+    (shapes_of (op.NEWARRAY ∷ []) (with_argument_count 1 (makes [] Array))
+    (shapes_of (op.NEWACTIVATION ∷ []) (only_at WithActivation (shape_with [] (ActivationKind ∷ [])))
+    (shapes_of (op.NEWCLASS ∷ []) (naming_shape ClassAt (shape_with value (ClassObjectKind ∷ [])))
+    (shapes_of (op.NEWCATCH ∷ []) (naming_shape HandlerAt (shape_with [] (CatchObjectKind ∷ [])))
     -- call, construct; callproperty, constructprop, callproplex; callpropvoid
-    (each (op.CALL ∷ []) (with_args 1 (makes two_values Any))
-    (each (op.CONSTRUCT ∷ []) (with_args 1 (makes value Any))
-    (each (op.CALLPROPERTY ∷ op.CONSTRUCTPROP ∷ op.CALLPROPLEX ∷ []) (with_args 1 (naming NameAt (makes (Runtime ∷ Value ∷ []) Any)))
-    (each (op.CALLPROPVOID ∷ []) (with_args 1 (naming NameAt (row (Runtime ∷ Value ∷ []) [])))
-    (each (op.GETSUPER ∷ []) (only OnInstance (naming NameAt (makes (Runtime ∷ Instance ∷ []) Any)))
-    (each (op.SETSUPER ∷ []) (only OnInstance (naming NameAt (row (Value ∷ Runtime ∷ Instance ∷ []) [])))
-    (each (op.CALLSUPER ∷ []) (only OnInstance (with_args 1 (naming NameAt (makes (Runtime ∷ Instance ∷ []) Any))))
-    (each (op.CALLSUPERVOID ∷ []) (only OnInstance (with_args 1 (naming NameAt (row (Runtime ∷ Instance ∷ []) []))))
-    (each (op.CONSTRUCTSUPER ∷ []) (only InMaker (with_args 1 (row (Instance ∷ []) [])))
+    (shapes_of (op.CALL ∷ []) (with_argument_count 1 (makes two_values Any))
+    (shapes_of (op.CONSTRUCT ∷ []) (with_argument_count 1 (makes value Any))
+    (shapes_of (op.CALLPROPERTY ∷ op.CONSTRUCTPROP ∷ op.CALLPROPLEX ∷ []) (with_argument_count 1 (naming_shape NameAt (makes (Runtime ∷ Value ∷ []) Any)))
+    (shapes_of (op.CALLPROPVOID ∷ []) (with_argument_count 1 (naming_shape NameAt (shape_with (Runtime ∷ Value ∷ []) [])))
+    (shapes_of (op.GETSUPER ∷ []) (only_at OnInstance (naming_shape NameAt (makes (Runtime ∷ Instance ∷ []) Any)))
+    (shapes_of (op.SETSUPER ∷ []) (only_at OnInstance (naming_shape NameAt (shape_with (Value ∷ Runtime ∷ Instance ∷ []) [])))
+    (shapes_of (op.CALLSUPER ∷ []) (only_at OnInstance (with_argument_count 1 (naming_shape NameAt (makes (Runtime ∷ Instance ∷ []) Any))))
+    (shapes_of (op.CALLSUPERVOID ∷ []) (only_at OnInstance (with_argument_count 1 (naming_shape NameAt (shape_with (Runtime ∷ Instance ∷ []) []))))
+    (shapes_of (op.CONSTRUCTSUPER ∷ []) (only_at InMaker (with_argument_count 1 (shape_with (Instance ∷ []) [])))
     -- findpropstrict, findproperty; getlex; setproperty, initproperty; getproperty, deleteproperty
-    (each (op.FINDPROPSTRICT ∷ op.FINDPROPERTY ∷ []) (naming NameAt (makes (Runtime ∷ []) Object))
-    (each (op.GETLEX ∷ []) (naming PlainNameAt (makes [] Any))
-    (each (op.SETPROPERTY ∷ op.INITPROPERTY ∷ []) (naming NameAt (row (Value ∷ Runtime ∷ Value ∷ []) []))
-    (each (op.GETPROPERTY ∷ []) (naming NameAt (makes (Runtime ∷ Value ∷ []) Any))
-    (each (op.DELETEPROPERTY ∷ []) (naming NameAt (makes (Runtime ∷ Value ∷ []) Truth))
+    (shapes_of (op.FINDPROPSTRICT ∷ op.FINDPROPERTY ∷ []) (naming_shape NameAt (makes (Runtime ∷ []) Object))
+    (shapes_of (op.GETLEX ∷ []) (naming_shape PlainNameAt (makes [] Any))
+    (shapes_of (op.SETPROPERTY ∷ op.INITPROPERTY ∷ []) (naming_shape NameAt (shape_with (Value ∷ Runtime ∷ Value ∷ []) []))
+    (shapes_of (op.GETPROPERTY ∷ []) (naming_shape NameAt (makes (Runtime ∷ Value ∷ []) Any))
+    (shapes_of (op.DELETEPROPERTY ∷ []) (naming_shape NameAt (makes (Runtime ∷ Value ∷ []) Truth))
     -- getglobalscope, getscopeobject; getslot, setslot
-    (each (op.GETGLOBALSCOPE ∷ []) (makes [] Object)
-    (each (op.GETSCOPEOBJECT ∷ []) (naming ScopeAt (row [] (ScopeKind ∷ [])))
-    (each (op.GETSLOT ∷ []) (row (Slotted ∷ []) (SlotKind ∷ []))
-    (each (op.SETSLOT ∷ []) (row (Value ∷ Slotted ∷ []) [])
+    (shapes_of (op.GETGLOBALSCOPE ∷ []) (makes [] Object)
+    (shapes_of (op.GETSCOPEOBJECT ∷ []) (naming_shape ScopeAt (shape_with [] (ScopeKind ∷ [])))
+    (shapes_of (op.GETSLOT ∷ []) (shape_with (Slotted ∷ []) (SlotKind ∷ []))
+    (shapes_of (op.SETSLOT ∷ []) (shape_with (Value ∷ Slotted ∷ []) [])
     -- convert_s, coerce_s, typeof; convert_i, convert_u, convert_d, negate, increment, decrement, bitnot, and these with _i
-    (each (op.CONVERT_S ∷ op.COERCE_S ∷ op.TYPEOF ∷ []) (makes value Text)
-    (each (op.CONVERT_I ∷ op.CONVERT_U ∷ op.CONVERT_D ∷ op.NEGATE ∷ op.INCREMENT ∷ op.DECREMENT ∷ op.BITNOT ∷ op.INCREMENT_I ∷ op.DECREMENT_I ∷ op.NEGATE_I ∷ []) (makes value Num)
+    (shapes_of (op.CONVERT_S ∷ op.COERCE_S ∷ op.TYPEOF ∷ []) (makes value Text)
+    (shapes_of (op.CONVERT_I ∷ op.CONVERT_U ∷ op.CONVERT_D ∷ op.NEGATE ∷ op.INCREMENT ∷ op.DECREMENT ∷ op.BITNOT ∷ op.INCREMENT_I ∷ op.DECREMENT_I ∷ op.NEGATE_I ∷ []) (makes value Num)
     -- convert_b, not; convert_o; coerce, coerce_a, astype, astypelate
-    (each (op.CONVERT_B ∷ op.NOT ∷ []) (makes value Truth)
-    (each (op.CONVERT_O ∷ []) (row value (Taken 0 ∷ []))
-    (each (op.COERCE ∷ []) (naming TypeOrAny (row value (TypeKind ∷ [])))
-    (each (op.COERCE_A ∷ []) (makes value Any)
-    (each (op.ASTYPE ∷ []) (naming TypeAt (row value (AsTypeKind ∷ [])))
-    (each (op.ASTYPELATE ∷ []) (makes two_values Any)
+    (shapes_of (op.CONVERT_B ∷ op.NOT ∷ []) (makes value Truth)
+    (shapes_of (op.CONVERT_O ∷ []) (shape_with value (Taken 0 ∷ []))
+    (shapes_of (op.COERCE ∷ []) (naming_shape TypeOrAny (shape_with value (TypeKind ∷ [])))
+    (shapes_of (op.COERCE_A ∷ []) (makes value Any)
+    (shapes_of (op.ASTYPE ∷ []) (naming_shape TypeAt (shape_with value (AsTypeKind ∷ [])))
+    (shapes_of (op.ASTYPELATE ∷ []) (makes two_values Any)
     -- add; subtract to bitxor, add_i to multiply_i; equals to greaterthan, instanceof, greaterequals, istypelate, in; istype
-    (each (op.ADD ∷ []) (row two_values (SumKind ∷ []))
-    (each (op.SUBTRACT ∷ op.MULTIPLY ∷ op.DIVIDE ∷ op.MODULO ∷ op.LSHIFT ∷ op.RSHIFT ∷ op.URSHIFT ∷ op.BITAND ∷ op.BITOR ∷ op.BITXOR ∷ op.ADD_I ∷ op.SUBTRACT_I ∷ op.MULTIPLY_I ∷ []) (makes two_values Num)
-    (each (op.EQUALS ∷ op.STRICTEQUALS ∷ op.LESSTHAN ∷ op.LESSEQUALS ∷ op.GREATERTHAN ∷ op.GREATEREQUALS ∷ op.INSTANCEOF ∷ op.ISTYPELATE ∷ op.IN ∷ []) (makes two_values Truth)
-    (each (op.ISTYPE ∷ []) (naming TypeAt (makes value Truth))
+    (shapes_of (op.ADD ∷ []) (shape_with two_values (SumKind ∷ []))
+    (shapes_of (op.SUBTRACT ∷ op.MULTIPLY ∷ op.DIVIDE ∷ op.MODULO ∷ op.LSHIFT ∷ op.RSHIFT ∷ op.URSHIFT ∷ op.BITAND ∷ op.BITOR ∷ op.BITXOR ∷ op.ADD_I ∷ op.SUBTRACT_I ∷ op.MULTIPLY_I ∷ []) (makes two_values Num)
+    (shapes_of (op.EQUALS ∷ op.STRICTEQUALS ∷ op.LESSTHAN ∷ op.LESSEQUALS ∷ op.GREATERTHAN ∷ op.GREATEREQUALS ∷ op.INSTANCEOF ∷ op.ISTYPELATE ∷ op.IN ∷ []) (makes two_values Truth)
+    (shapes_of (op.ISTYPE ∷ []) (naming_shape TypeAt (makes value Truth))
     []
     ))))))))))))))))))))))))))))))))))))))))))))))))))))))))))))))))))
 
@@ -157,4 +157,4 @@ find op (r ∷ rs) = cond (nat_eq op r.0) (Some r.1) (find op rs)
 
 -- the row of an opcode
 unfoldable pub row_at : ℕ → Option Shape
-row_at op = find op table
+row_at op = find op table_of_rows

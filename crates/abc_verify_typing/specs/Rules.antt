@@ -7,7 +7,7 @@ use Rattle.abc_link_names.specs.Owners.{body_of, owner_of}
 use Rattle.abc_link_names.specs.declared.part.LayoutId.{LayoutId}
 use Rattle.abc_link_names.specs.declared.types.Owner.{Owner}
 use Rattle.abc_link_names.specs.declared.types.Owner.TheVariants as owners
-use Rattle.abc_verify_typing.specs.Instructions.{local, opcode, operand, second}
+use Rattle.abc_verify_typing.specs.Instructions.{local, opcode, operand, second_local}
 use Rattle.abc_verify_typing.specs.Rows.{Shape, row_at}
 use Rattle.abc_file_types.specs.declared.code.Instr.{Instr}
 use Rattle.abc_file_types.specs.declared.names.Multiname.{Multiname}
@@ -29,15 +29,15 @@ use Rattle.abc_verify_typing.specs.declared.row.Scoping.{Scoping}
 use Rattle.abc_verify_typing.specs.declared.row.Scoping.TheVariants.{Stays, Pushes, Pops}
 use Rattle.abc_verify_typing.specs.declared.row.Site.{Site}
 use Rattle.abc_verify_typing.specs.declared.row.Site.TheVariants.{Anywhere, WithActivation, OnInstance, InMaker}
-use Rattle.abc_verify_typing.specs.Effects.{Here, name_at, slot, needs, depth, taken, kind_at, leads, after, covering, caught}
+use Rattle.abc_verify_typing.specs.Effects.{Here, multiname_at, slot_kind_at, needs, depth, stack_below, kind_at, leads, states_after, covering, caught_state}
 
-abbrev pub is_free : Owner → Bool
-is_free owners.Free = true
-is_free owner = false
+abbrev pub is_free_owner : Owner → Bool
+is_free_owner owners.Free = true
+is_free_owner owner = false
 
 -- a method that no one owns and that has a body
 abbrev pub is_function : LinkedFile → ℕ → Bool
-is_function p n = is_free (owner_of p.file n) && is_some (body_of p.file n)
+is_function p n = is_free_owner (owner_of p.file n) && is_some (body_of p.file n)
 
 abbrev pub all_below : List ℕ → ℕ → Bool
 all_below [] n = true
@@ -61,21 +61,21 @@ in_table p m Unnamed n = true
 in_table p m ScopeAt n = true
 
 -- no attribute, no name 0, and no type with parameters
-abbrev pub is_plain : Option Multiname → Bool
-is_plain (Some (names.QName attr ns n)) = not attr && ltb 0 n
-is_plain (Some (names.Multi attr n set)) = not attr && ltb 0 n
-is_plain name = false
+abbrev pub is_plain_multiname : Option Multiname → Bool
+is_plain_multiname (Some (names.QName attr ns n)) = not attr && ltb 0 n
+is_plain_multiname (Some (names.Multi attr n set)) = not attr && ltb 0 n
+is_plain_multiname name = false
 
-abbrev pub is_name : Option Multiname → Bool
-is_name (Some (names.Rt attr n)) = not attr && ltb 0 n
-is_name (Some (names.RtL attr)) = not attr
-is_name (Some (names.MultiL attr set)) = not attr
-is_name name = is_plain name
+abbrev pub is_static_name : Option Multiname → Bool
+is_static_name (Some (names.Rt attr n)) = not attr && ltb 0 n
+is_static_name (Some (names.RtL attr)) = not attr
+is_static_name (Some (names.MultiL attr set)) = not attr
+is_static_name name = is_plain_multiname name
 
 -- the operand n, if it is a name or a type, has the form that the row asks for
 abbrev pub has_form : LinkedFile → Operand → ℕ → Bool
-has_form p NameAt n = is_name (name_at p n)
-has_form p PlainNameAt n = is_plain (name_at p n)
+has_form p NameAt n = is_static_name (multiname_at p n)
+has_form p PlainNameAt n = is_plain_multiname (multiname_at p n)
 has_form p TypeAt n = is_some (type_at p n)
 has_form p TypeOrAny n = is_some (type_at p n)
 has_form p Unnamed n = true
@@ -89,9 +89,9 @@ has_form p ClassAt n = true
 has_form p HandlerAt n = true
 has_form p ScopeAt n = true
 
-abbrev pub is_empty : List Catch → Bool
-is_empty [] = true
-is_empty (h ∷ hs) = false
+abbrev pub is_without_catches : List Catch → Bool
+is_without_catches [] = true
+is_without_catches (h ∷ hs) = false
 
 -- if a scope is popped, there is one; n is how many local scopes there are
 abbrev pub may_pop : Scoping → ℕ → Bool
@@ -110,7 +110,7 @@ abbrev pub has_locals : Locals → Instr → ℕ → Bool
 has_locals Untouched i count = true
 has_locals Reads i count = ltb (local i) count
 has_locals (Sets source) i count = ltb (local i) count
-has_locals Walks i count = ltb (local i) count && (ltb (second i) count && not (eqb (local i) (second i)))
+has_locals Walks i count = ltb (local i) count && (ltb (second_local i) count && not (eqb (local i) (second_local i)))
 
 -- whether a layout is another or stands under it, by at most so many steps
 abbrev pub reaches : LinkedFile → ℕ → ℕ → ℕ → Bool
@@ -149,20 +149,20 @@ is_object (Obj l) = true
 is_object k = false
 
 -- Num
-abbrev pub is_number : Kind → Bool
-is_number Num = true
-is_number k = false
+abbrev pub is_kind_number : Kind → Bool
+is_kind_number Num = true
+is_kind_number k = false
 
 -- Null, or the Obj of a layout at or under m; where no layout is given, any kind
-abbrev pub is_instance : LinkedFile → Option LayoutId → Kind → Bool
-is_instance p None k = true
-is_instance p (Some m) Null = true
-is_instance p (Some m) (Obj l) = reaches p l.0 l.0 m.0
-is_instance p (Some m) k = false
+abbrev pub is_instance_of_layout : LinkedFile → Option LayoutId → Kind → Bool
+is_instance_of_layout p None k = true
+is_instance_of_layout p (Some m) Null = true
+is_instance_of_layout p (Some m) (Obj l) = reaches p l.0 l.0 m.0
+is_instance_of_layout p (Some m) k = false
 
 -- an Obj has to have the slot of number j; any other kind passes
 abbrev pub has_slot : LinkedFile → ℕ → Kind → Bool
-has_slot p j (Obj l) = is_some (slot p l.0 j)
+has_slot p j (Obj l) = is_some (slot_kind_at p l.0 j)
 has_slot p j Any = true
 has_slot p j Undef = true
 has_slot p j Null = true
@@ -185,7 +185,7 @@ suits_object h Value k = true
 suits_object h Namespace k = true
 suits_object h Index k = true
 suits_object h Slotted k = is_object k
-suits_object h Instance k = is_instance h.file (super_layout h.row.site h.method.home) k
+suits_object h Instance k = is_instance_of_layout h.file (super_layout h.row.site h.method.home) k
 suits_object h Runtime k = true
 
 abbrev pub suits_slot : Here → Need → Kind → Bool
@@ -199,7 +199,7 @@ suits_slot h Runtime k = true
 abbrev pub suits_index : Need → Kind → Bool
 suits_index Value k = true
 suits_index Namespace k = true
-suits_index Index k = is_number k
+suits_index Index k = is_kind_number k
 suits_index Slotted k = true
 suits_index Instance k = true
 suits_index Runtime k = true
@@ -232,7 +232,7 @@ all_suit h r (n ∷ ns) [] = true
 all_suit h r (n ∷ ns) (k ∷ ks) = suits h r n k && all_suit h r ns ks
 
 abbrev pub is_walked : Here → State → Locals → Bool
-is_walked h s Walks = is_number (kind_at s.locals (second h.instr))
+is_walked h s Walks = is_kind_number (kind_at s.locals (second_local h.instr))
 is_walked h s Untouched = true
 is_walked h s Reads = true
 is_walked h s (Sets source) = true
@@ -261,17 +261,17 @@ abbrev pub keeps : Here → State → VerifyRule → Bool
 keeps h s PoolIndex = in_table h.file h.method h.row.operand (operand h.instr)
 keeps h s NameForm = has_form h.file h.row.operand (operand h.instr)
 keeps h s StackUnder = leb (depth h) (length s.stack)
-keeps h s StackOver = leb (length s.stack - depth h + length h.row.gives) h.method.max_stack && (ltb 0 h.method.max_stack || is_empty (covering h.method h.place))
+keeps h s StackOver = leb (length s.stack - depth h + length h.row.gives) h.method.max_stack && (ltb 0 h.method.max_stack || is_without_catches (covering h.method h.place))
 keeps h s ScopeUnder = may_pop h.row.scoping (length s.scopes)
 keeps h s ScopeOver = may_push h.row.scoping (length s.scopes) h.method.scope_size
 keeps h s LocalIndex = has_locals h.row.locals h.instr h.method.local_count
 keeps h s OffEnd = all_below (leads h h.row.leads) (length h.method.code) && all_below (map handler_target (covering h.method h.place)) (length h.method.code)
-keeps h s NotSpace = all_suit h NotSpace (needs h) (taken h s)
-keeps h s NotObject = all_suit h NotObject (needs h) (taken h s)
-keeps h s SlotIndex = all_suit h SlotIndex (needs h) (taken h s)
+keeps h s NotSpace = all_suit h NotSpace (needs h) (stack_below h s)
+keeps h s NotObject = all_suit h NotObject (needs h) (stack_below h s)
+keeps h s SlotIndex = all_suit h SlotIndex (needs h) (stack_below h s)
 keeps h s ScopeIndex = names_scope h s h.row.operand
 keeps h s NotHere = is_here h.method h.row.site
-keeps h s NotIndex = all_suit h NotIndex (needs h) (taken h s) && is_walked h s h.row.locals
+keeps h s NotIndex = all_suit h NotIndex (needs h) (stack_below h s) && is_walked h s h.row.locals
 keeps h s Parameters = ltb 0 h.place || leb (length h.method.filled) h.method.local_count
 keeps h s Flags = ltb 0 h.place || not h.method.unsupported
 keeps h s NotRun = true
@@ -308,11 +308,11 @@ broken_early p m i s = at_instr p m i early_rules s (slice_get m.code i)
 -- what follows a state
 abbrev pub after_row : LinkedFile → Routine → ℕ → Instr → State → Option Shape → List (ℕ × State)
 after_row p m i instr s None = []
-after_row p m i instr s (Some row) = after (record { file = p; method = m; place = i; instr = instr; row = row }) s
+after_row p m i instr s (Some row) = states_after (record { file = p; method = m; place = i; instr = instr; row = row }) s
 
 abbrev pub after_instr : LinkedFile → Routine → ℕ → State → Option Instr → List (ℕ × State)
 after_instr p m i s None = []
 after_instr p m i s (Some instr) = after_row p m i instr s (row_at (opcode instr))
 
 abbrev pub follows : LinkedFile → Routine → ℕ → State → List (ℕ × State)
-follows p m i s = after_instr p m i s (slice_get m.code i) ++ map (caught s) (covering m i)
+follows p m i s = after_instr p m i s (slice_get m.code i) ++ map (caught_state s) (covering m i)

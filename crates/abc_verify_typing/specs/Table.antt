@@ -30,6 +30,6 @@ abbrev pub shape_in : Option Row → Option Shape
 shape_in None = None
 shape_in (Some r) = Some (shape_of r)
 
-abbrev pub counted : ℕ → ℕ → List ℕ
-counted zero from = []
-counted (suc n) from = from ∷ counted n (from + 1)
+abbrev pub numbers_from : ℕ → ℕ → List ℕ
+numbers_from zero from = []
+numbers_from (suc n) from = from ∷ numbers_from n (from + 1)

@@ -1,5 +1,5 @@
 ghost use Rattle.std.specs.Prelude.{◌≡◌};
-ghost use Rattle.abc_verify_typing.specs.Instructions.{arguments, local, opcode, operand, second};
+ghost use Rattle.abc_verify_typing.specs.Instructions.{argument_count, local, opcode, operand, second_local};
 
 use abc_file_types::{Instr, op};
 
@@ -39,7 +39,7 @@ pub fn operand_of(instr: &Instr) -> u32
 
 /// How many arguments an instruction says that it has.
 pub fn arguments_of(instr: &Instr) -> u32
-    ensures { result ≡ arguments instr.now }
+    ensures { result ≡ argument_count instr.now }
 {
     match instr {
         Instr::One(_, argc) => *argc,
@@ -66,7 +66,7 @@ pub fn local_of(instr: &Instr) -> u32
 
 /// The local of `hasnext2` that is an index.
 pub fn second_of(instr: &Instr) -> u32
-    ensures { result ≡ second instr.now }
+    ensures { result ≡ second_local instr.now }
 {
     match instr {
         Instr::Two(_, _, q) => *q,

@@ -6,21 +6,21 @@ use Rattle.abc_file_types.specs.declared.classes.Instance.{Instance}
 use Rattle.abc_file_types.specs.declared.classes.Script.{Script}
 use Rattle.abc_file_types.specs.declared.code.Body.{Body}
 use Rattle.abc_file_types.specs.declared.methods.Metadata.{Metadata}
-use Rattle.abc_text_reader.specs.Parts.{Part, pair_of}
+use Rattle.abc_text_reader.specs.Parts.{TextPart, pair_of}
 use Rattle.abc_text_reader.proofs.Pairs.{mapped_err, mapped_ok, pair_first, pair_ok, pair_second}
 use Rattle.abc_asm.specs.Whole.{bodies_read, classes_read, definitions_made, instances_read, metadata_read, methods_read, scripts_read}
 use Rattle.abc_asm.proofs.assembling.read_definitions.Goals as goal
 
-abbrev from_scripts : Part (List Script × List Body)
+abbrev from_scripts : TextPart (List Script × List Body)
 from_scripts = pair_of scripts_read bodies_read
 
-abbrev from_classes : Part (List ClassInfo × (List Script × List Body))
+abbrev from_classes : TextPart (List ClassInfo × (List Script × List Body))
 from_classes = pair_of classes_read from_scripts
 
-abbrev from_instances : Part (List Instance × (List ClassInfo × (List Script × List Body)))
+abbrev from_instances : TextPart (List Instance × (List ClassInfo × (List Script × List Body)))
 from_instances = pair_of instances_read from_classes
 
-abbrev from_metadata : Part (List Metadata × (List Instance × (List ClassInfo × (List Script × List Body))))
+abbrev from_metadata : TextPart (List Metadata × (List Instance × (List ClassInfo × (List Script × List Body))))
 from_metadata = pair_of metadata_read from_instances
 
 pub returns-in_err-methods-clause-reads : goal.returns-in_err-methods-clause-reads

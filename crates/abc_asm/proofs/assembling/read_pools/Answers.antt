@@ -4,24 +4,24 @@ use Rattle.std.proofs.lemmas.Result.{err_from_is_err_and}
 use Rattle.abc_file_types.specs.declared.names.Multiname.{Multiname}
 use Rattle.abc_file_types.specs.declared.names.Namespace.{Namespace}
 use Rattle.abc_file_types.specs.declared.tables.Eight.{Eight}
-use Rattle.abc_text_reader.specs.Parts.{Part, pair_of}
+use Rattle.abc_text_reader.specs.Parts.{TextPart, pair_of}
 use Rattle.abc_text_reader.proofs.Pairs.{mapped_err, mapped_ok, pair_first, pair_ok, pair_second}
 use Rattle.abc_asm.specs.Whole.{doubles_read, ints_read, names_read, namespaces_read, pools_made, sets_read, strings_read, uints_read}
 use Rattle.abc_asm.proofs.assembling.read_pools.Goals as goal
 
-abbrev from_sets : Part (List (List ℕ) × List Multiname)
+abbrev from_sets : TextPart (List (List ℕ) × List Multiname)
 from_sets = pair_of sets_read names_read
 
-abbrev from_namespaces : Part (List Namespace × (List (List ℕ) × List Multiname))
+abbrev from_namespaces : TextPart (List Namespace × (List (List ℕ) × List Multiname))
 from_namespaces = pair_of namespaces_read from_sets
 
-abbrev from_strings : Part (List (List ℕ) × (List Namespace × (List (List ℕ) × List Multiname)))
+abbrev from_strings : TextPart (List (List ℕ) × (List Namespace × (List (List ℕ) × List Multiname)))
 from_strings = pair_of strings_read from_namespaces
 
-abbrev from_doubles : Part (List Eight × (List (List ℕ) × (List Namespace × (List (List ℕ) × List Multiname))))
+abbrev from_doubles : TextPart (List Eight × (List (List ℕ) × (List Namespace × (List (List ℕ) × List Multiname))))
 from_doubles = pair_of doubles_read from_strings
 
-abbrev from_uints : Part (List ℕ × (List Eight × (List (List ℕ) × (List Namespace × (List (List ℕ) × List Multiname)))))
+abbrev from_uints : TextPart (List ℕ × (List Eight × (List (List ℕ) × (List Namespace × (List (List ℕ) × List Multiname)))))
 from_uints = pair_of uints_read from_doubles
 
 pub returns-in_err-ints-clause-reads : goal.returns-in_err-ints-clause-reads

@@ -4,14 +4,14 @@ use Rattle.std.proofs.lemmas.Result.{err_from_is_err_and}
 use Rattle.abc_text_lines.specs.declared.word.Word.TheVariants as words
 use Rattle.abc_text_reader.proofs.Lone.{broken_reads, named_is}
 use Rattle.abc_text_reader.proofs.Pairs.{headed}
-use Rattle.abc_asm.specs.Below.{body_below, body_of, body_value}
+use Rattle.abc_asm.specs.Below.{body_below, body_from_below, body_value}
 use Rattle.abc_asm.proofs.Bodied.{below_fails, body_fine, head_fails, head_fine, line_says, too_long}
 use Rattle.abc_asm.proofs.bodies.read_body.Goals as goal
 
 pub returns-in_err-taken-clause-reads : goal.returns-in_err-taken-clause-reads
 returns-in_err-taken-clause-reads c =
     let p = err_from_is_err_and c.from_residual.result c.from_residual.ensures.1 in
-    rw (p.1, p.2) (broken_reads _ c.args.reader.now c.take.new.self _ (headed body_value body_below body_of) c.in_err-taken.ensures.broken)
+    rw (p.1, p.2) (broken_reads _ c.args.reader.now c.take.new.self _ (headed body_value body_below body_from_below) c.in_err-taken.ensures.broken)
 
 pub returns-in_err-head-clause-reads : goal.returns-in_err-head-clause-reads
 returns-in_err-head-clause-reads c =

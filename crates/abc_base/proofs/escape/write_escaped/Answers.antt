@@ -8,7 +8,7 @@ use Rattle.std.specs.Io.KnownBytes.{append_known}
 use Rattle.std.proofs.lemmas.Result.{err_from_is_err_and}
 use Rattle.abc_base.specs.Sinks.{GrowsByFront}
 use Rattle.abc_base.proofs.Writing.{front_first, front_second, known_told}
-use Rattle.abc_base.specs.Escapes.{escape_of, escaped}
+use Rattle.abc_base.specs.Escapes.{escape_of, with_escapes}
 use Rattle.abc_base.proofs.escape.write_escaped.Goals as goal
 
 -- what was written before a byte, its own bytes, and what comes after
@@ -27,7 +27,7 @@ front_in old mid new xs i lt is f =
     subst (GrowsByFront old new) (parts xs i lt) (front_first old new (before ++ escape_of (get_or xs i 0)) (flat_map escape_of (drop (suc i) xs)) two)
 
 pub returns-in_err-write_escape-clause-bytes : goal.returns-in_err-write_escape-clause-bytes
-unfolding escaped
+unfolding with_escapes
 returns-in_err-write_escape-clause-bytes g c = λ some.
     let p = err_from_is_err_and c.from_residual.result c.from_residual.ensures.1 in
     let before = c.loop-byte.invariant.written some in

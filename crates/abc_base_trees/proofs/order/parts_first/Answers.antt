@@ -1,6 +1,6 @@
 use Rattle.std.proofs.Common.{get_or, false, ap, ◌∙◌, sym, length, true≢false}
 use Rattle.std.proofs.lemmas.List.{length-replicate}
-use Rattle.abc_base_trees.specs.Walks.{pushed}
+use Rattle.abc_base_trees.specs.Walks.{with_entries}
 use Rattle.abc_base_trees.proofs.Visited.{no_marks}
 use Rattle.abc_base_trees.proofs.Walked.{ordered, walk_begun}
 use Rattle.abc_base_trees.proofs.order.parts_first.Goals as goal
@@ -13,7 +13,7 @@ loop-task-init c =
       walk = λ never. rw (c.in_ok-add_all.ensures.order ∙ c.new-2.ensures)
           (walk_begun c.args.graph.now c.args.roots.now c.add_all.new.self.entered.items c.add_all.new.self.todo
           (λ x e. true≢false (sym e ∙ ap (λ ms. get_or ms x false) marks ∙ no_marks _ x))
-          (c.in_ok-add_all.ensures.todo ∙ (λ i. pushed (c.as_slice.ensures i) (c.new.ensures i))));
+          (c.in_ok-add_all.ensures.todo ∙ (λ i. with_entries (c.as_slice.ensures i) (c.new.ensures i))));
     }
 
 pub returns : goal.returns

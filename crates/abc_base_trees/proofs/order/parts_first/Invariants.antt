@@ -1,5 +1,5 @@
 use Rattle.std.proofs.Common.{◌≡◌, ◌+◌, length}
-use Rattle.abc_base_trees.specs.Effort.{unmarked}
+use Rattle.abc_base_trees.specs.Effort.{effort_unmarked}
 use Rattle.abc_base_trees.specs.Orders.{NoneReturns}
 use Rattle.abc_base_trees.specs.Walks.{IsWalk}
 use Rattle.abc_base_trees.proofs.order.parts_first.Given as goal
@@ -11,4 +11,4 @@ invariant-loop-task l = record {
 }
 
 abbrev pub decreases-loop-task : goal.decreases-loop-task
-decreases-loop-task l = unmarked l.graph l.walk.entered.items + length l.walk.todo
+decreases-loop-task l = effort_unmarked l.graph l.walk.entered.items + length l.walk.todo

@@ -1,7 +1,7 @@
 use Rattle.std.proofs.Common.{◌∙◌, arith, length, ◌-◌, ◌+◌}
 use Rattle.std.proofs.lemmas.List.Elements.{All-push}
 use Rattle.std.proofs.lemmas.Result.{err_from_is_err_and}
-use Rattle.abc_file_types.specs.Bodies.{handler, IsWithin}
+use Rattle.abc_file_types.specs.Bodies.{handler, IsHandlerWithin}
 use Rattle.abc_varint.specs.declared.error.ReadError.TheVariants as errors
 use Rattle.abc_varint.proofs.Loop.{goes_on, ends, other_err}
 use Rattle.abc_bodies.proofs.handlers.read_each_handler.Goals as goal
@@ -26,5 +26,5 @@ loop-preserved g c =
     record {
       going = rw c.in_ok-push.ensures.ok (goes_on (handler c.args.sizes.now c.args.starts.now) c.args.count (c.args.count - c.loop.counter) (c.args.count - (c.loop.counter + 1)) c.loop.handlers _ _ _ _ _ _ _ (omega arith) before.going e.value.0);
       later = omega (arith, before.later, e.value.2);
-      within = rw c.in_ok-push.ensures.ok (All-push (IsWithin (length c.args.starts.now - 1)) c.loop.handlers c.in_ok-handler.handler before.within e.within);
+      within = rw c.in_ok-push.ensures.ok (All-push (IsHandlerWithin (length c.args.starts.now - 1)) c.loop.handlers c.in_ok-handler.handler before.within e.within);
     }

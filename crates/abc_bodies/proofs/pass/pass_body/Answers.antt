@@ -2,9 +2,9 @@ use Rattle.std.proofs.Common.{arith, append_assoc, refl, ◌∙◌}
 use Rattle.std.proofs.lemmas.Result.{err_from_is_err_and}
 use Rattle.abc_file_types.specs.Bodies.{body_bytes, body_with}
 use Rattle.abc_varint.specs.declared.error.ReadError.TheVariants as errors
-use Rattle.abc_varint.specs.Reads.{known}
+use Rattle.abc_varint.specs.Reads.{known_input}
 use Rattle.abc_varint.proofs.Loop.{other_err}
-use Rattle.abc_bodies.specs.Reading.{free_body, rest, rest_bytes}
+use Rattle.abc_bodies.specs.Reading.{free_body, part_behind_sizes, rest_bytes}
 use Rattle.abc_bodies.proofs.Rest.{rest_fails}
 use Rattle.abc_bodies.proofs.pass.pass_body.Goals as goal
 
@@ -16,7 +16,7 @@ returns-in_err-pass_rest-clause-value g c =
     rw (p.1, p.2) (
       (λ k.
           let f = v.0 e5.0.1 in
-          let input = known c.pass_rest.new.w (g.S.Source.left c.pass_rest.new.source) in
+          let input = known_input c.pass_rest.new.w (g.S.Source.left c.pass_rest.new.source) in
           let d5 = e5.0.4 input f.0 in let d4 = e4.0.4 input d5.0 in let d3 = e3.0.4 input d4.0 in let d2 = e2.0.4 input d3.0 in
           let d1 = e1.0.4 input d2.0 in
           (d1.0, rest_fails e c.args.sizes.now c.args.flags.now _ _ _ _ _ _ _ _ _ _ _ d1.1 d2.1.read d3.1.read d4.1.read d5.1.read f.1)),
@@ -27,7 +27,7 @@ returns-in_err-pass_rest-clause-value g c =
     )
 
 pub returns-clause-value : goal.returns-clause-value
-unfolding free_body body_with body_bytes rest rest_bytes
+unfolding free_body body_with body_bytes part_behind_sizes rest_bytes
 returns-clause-value g c =
     let e1 = c.in_ok-method.ensures.value in let e2 = c.in_ok-pass_size.ensures in let e3 = c.in_ok-pass_size-2.ensures in let e4 = c.in_ok-pass_size-3.ensures in let e5 = c.in_ok-pass_size-4.ensures in let e6 = c.in_ok-pass_rest.ensures in (
       (

@@ -4,7 +4,7 @@ use Rattle.std.proofs.lemmas.Option.{slice_get_within}
 use Rattle.std.proofs.lemmas.Result.{err_from_is_err_and}
 use Rattle.abc_file_types.specs.Bodies.{IsReadyBody}
 use Rattle.abc_varint.specs.declared.error.ReadError.TheVariants as errors
-use Rattle.abc_varint.specs.Reads.{known}
+use Rattle.abc_varint.specs.Reads.{known_input}
 use Rattle.abc_varint.proofs.Inputs.{known_is}
 use Rattle.abc_varint.proofs.Loop.{other_err}
 use Rattle.abc_bodies.proofs.Collecting.{gathered, gathered_places, gathering_begins, gathering_fails, gathers}
@@ -66,7 +66,7 @@ returns-in_err-push-clause-value g c =
     let w = c.read_body.new.w in
     let s = g.S.Source.left c.read_body.new.source in
     rw (p.1, p.2) (
-      (λ k. (before.gathering.collecting.chained.told (known w s) (e.0.4 (known w s) (known_is w s)).0, tt)),
+      (λ k. (before.gathering.collecting.chained.told (known_input w s) (e.0.4 (known_input w s) (known_is w s)).0, tt)),
       (λ e h. absurd (let k = c.requires.fresh in cc)),
       omega (arith, before.later, e.2),
       (λ k h. absurd cc),
@@ -81,7 +81,7 @@ returns-in_err-keep-clause-value g c =
     let w = c.read_body.new.w in
     let s = g.S.Source.left c.read_body.new.source in
     rw (p.1, p.2) (
-      (λ k. (before.gathering.collecting.chained.told (known w s) (e.0.4 (known w s) (known_is w s)).0, tt)),
+      (λ k. (before.gathering.collecting.chained.told (known_input w s) (e.0.4 (known_input w s) (known_is w s)).0, tt)),
       (λ e h. absurd (let k = c.requires.fresh in cc)),
       omega (arith, before.later, e.2),
       (λ k h. absurd cc),

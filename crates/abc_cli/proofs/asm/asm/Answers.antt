@@ -1,7 +1,7 @@
 use Rattle.std.proofs.Common.{ℕ, List, subst}
 use Rattle.std.proofs.lemmas.Result.{err_from_is_err_and}
 use Rattle.abc_cli_answers.specs.End.{stream}
-use Rattle.abc_cli_answers.specs.Answers.{given}
+use Rattle.abc_cli_answers.specs.Answers.{bytes_answer}
 use Rattle.abc_cli.specs.Outcome.{Asm}
 use Rattle.abc_cli_answers.specs.Stops.{StopsAt}
 use Rattle.abc_cli.proofs.Assembling.{input_stops, text_gives, text_stops}
@@ -9,7 +9,7 @@ use Rattle.abc_cli.proofs.asm.asm.Goals as goal
 
 pub returns-clause-gives : goal.returns-clause-gives
 returns-clause-gives g c =
-    let here = subst (λ (t : List ℕ). Asm t (given c.in_ok-bytes.bytes.items)) c.as_slice.ensures.value c.in_ok-bytes.ensures.gives in
+    let here = subst (λ (t : List ℕ). Asm t (bytes_answer c.in_ok-bytes.bytes.items)) c.as_slice.ensures.value c.in_ok-bytes.ensures.gives in
     text_gives (stream g.S.Source.left g.S.Source.faults c.args.source.now c.read_input.new.source) c.in_ok-text.text.items c.in_ok-bytes.bytes.items c.in_ok-text.ensures.bytes c.in_ok-text.ensures.end here
 
 pub returns-in_err-text-clause-stops : goal.returns-in_err-text-clause-stops

@@ -1,7 +1,7 @@
 use Rattle.std.proofs.Common.{ℕ, List, ap, subst, sym}
 use Rattle.std.specs.Io.KnownBytes.{Keeps, append_known}
 use Rattle.abc_log_blocks.specs.Begun.{BeginsWith}
-use Rattle.abc_log_blocks.specs.BlockSinks.{faults_of, waiting_of, written_of}
+use Rattle.abc_log_blocks.specs.BlockSinks.{sink_faults, waiting_of, written_of}
 use Rattle.abc_machine.specs.Ended.{HasRun}
 use Rattle.abc_meaning.specs.Logs.{log}
 use Rattle.abc_meaning.specs.Meaning.{meaning}
@@ -28,5 +28,5 @@ returns-clause-logs g c =
 pub returns-clause-cause : goal.returns-clause-cause
 returns-clause-cause g c =
     let e = c.hand_on_last-last.ensures in
-    let run = subst (λ (n : ℕ). HasRun n (faults_of c.run_logged-end.new.log) c.run_logged-end.result) c.new-blocks.ensures.faults (c.run_logged-end.ensures.cause c.requires.begun) in
+    let run = subst (λ (n : ℕ). HasRun n (sink_faults c.run_logged-end.new.log) c.run_logged-end.result) c.new-blocks.ensures.faults (c.run_logged-end.ensures.cause c.requires.begun) in
     subst (λ k. HasRun (g.K.Sink.faults c.args.out.now) (g.K.Sink.faults k) c.hand_on_last-last.result) (sym c.into_inner.ensures.is) (has_run _ _ _ c.run_logged-end.result c.hand_on_last-last.result run e.later e.cause)

@@ -2,7 +2,7 @@ use Rattle.std.proofs.Common.{arith, refl, ◌∙◌}
 use Rattle.std.proofs.lemmas.Result.{err_from_is_err_and}
 use Rattle.abc_file_types.specs.Files.{file_read}
 use Rattle.abc_varint.specs.declared.error.ReadError.TheVariants as errors
-use Rattle.abc_varint.specs.Reads.{known}
+use Rattle.abc_varint.specs.Reads.{known_input}
 use Rattle.abc_varint.proofs.Inputs.{known_is}
 use Rattle.abc_varint.proofs.Loop.{other_err}
 use Rattle.abc_bodies.proofs.Passing.{beside}
@@ -42,7 +42,7 @@ returns-in_err-shown g c =
     let e1 = c.in_ok-read_version.ensures in let e2 = c.in_ok-abc.ensures.value in let e3 = c.in_ok-read_definitions.ensures.value in
     let w = c.read_definitions.new.w in let s = g.S.Source.left c.read_definitions.new.source in
     rw (p.1, p.2) (
-      (λ k. let d3 = e3.0.4 (known w s) (known_is w s) in let d2 = e2.0.4 (known w s) d3.0 in let d1 = e1.0.4 (known w s) d2.0 in (d1.0, tt)),
+      (λ k. let d3 = e3.0.4 (known_input w s) (known_is w s) in let d2 = e2.0.4 (known_input w s) d3.0 in let d1 = e1.0.4 (known_input w s) d2.0 in (d1.0, tt)),
       (λ e h. absurd (let k = e1.0.0 in cc)),
       omega (arith, e1.2, e2.2, e3.2),
       (λ k h. absurd cc),
@@ -55,7 +55,7 @@ returns-in_err-put_front g c =
     let e1 = c.in_ok-read_version.ensures in let e2 = c.in_ok-abc.ensures.value in let e3 = c.in_ok-read_definitions.ensures.value in
     let w = c.read_definitions.new.w in let s = g.S.Source.left c.read_definitions.new.source in
     rw (p.1, p.2) (
-      (λ k. let d3 = e3.0.4 (known w s) (known_is w s) in let d2 = e2.0.4 (known w s) d3.0 in let d1 = e1.0.4 (known w s) d2.0 in (d1.0, tt)),
+      (λ k. let d3 = e3.0.4 (known_input w s) (known_is w s) in let d2 = e2.0.4 (known_input w s) d3.0 in let d1 = e1.0.4 (known_input w s) d2.0 in (d1.0, tt)),
       (λ e h. absurd (let k = e1.0.0 in cc)),
       omega (arith, e1.2, e2.2, e3.2),
       (λ k h. absurd cc),
@@ -68,7 +68,7 @@ returns-in_err-list_bodies g c =
     let e1 = c.in_ok-read_version.ensures in let e2 = c.in_ok-abc.ensures.value in let e3 = c.in_ok-read_definitions.ensures.value in let e4 = c.in_err-list_bodies.ensures in
     rw (p.1, p.2) (
       (λ k.
-          let f = e4.0 e3.0.1 in let input = known c.list_bodies.new.w (g.S.Source.left c.list_bodies.new.source) in
+          let f = e4.0 e3.0.1 in let input = known_input c.list_bodies.new.w (g.S.Source.left c.list_bodies.new.source) in
           let d3 = e3.0.4 input f.0 in let d2 = e2.0.4 input d3.0 in let d1 = e1.0.4 input d2.0 in
           (d1.0, bodies_fail c.in_err-list_bodies.field-0.0 _ _ _ _ _ c.in_ok-abc.abc c.read_definitions.new.abc c.sizes_of-sizes.result d1.1 d2.1 d3.1 c.sizes_of-sizes.ensures f.1)),
       (λ e h. absurd (let k = e1.0.0 in cc)),

@@ -1,6 +1,6 @@
 use Rattle.std.proofs.Common.{◌++◌, List, ℕ, refl, sym, ap, ◌∙◌}
 use Rattle.std.proofs.lemmas.Result.{err_from_is_err_and}
-use Rattle.abc_varint.specs.Reads.{known}
+use Rattle.abc_varint.specs.Reads.{known_input}
 use Rattle.abc_varint.proofs.Inputs.{known_is}
 use Rattle.abc_disasm.proofs.Rendering.{body_is}
 use Rattle.abc_disasm.proofs.listed_bodies.list_body.Goals as goal
@@ -37,7 +37,7 @@ returns-in_err-put_body-clause-value g c =
     let w = c.read_body.new.w in
     let s = g.S.Source.left c.read_body.new.source in
     rw (p.1, p.2) (
-      (λ k. ((e.0.4 (known w s) (known_is w s)).0, tt)),
+      (λ k. ((e.0.4 (known_input w s) (known_is w s)).0, tt)),
       (λ x h. absurd (let k = e.0.0 in cc)),
       e.2,
       (λ k h. absurd cc),

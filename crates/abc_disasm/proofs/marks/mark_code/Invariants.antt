@@ -1,11 +1,11 @@
 use Rattle.std.proofs.Common.{◌≡◌, ℕ, List, ◌++◌, take, vec_len}
 use Rattle.std.specs.List.{flat_map}
-use Rattle.abc_disasm.specs.Marks.{AreMarks}
+use Rattle.abc_disasm.specs.Marks.{AreTargetMarks}
 use Rattle.abc_disasm.specs.Texts.{instr_targets}
 use Rattle.abc_disasm.proofs.marks.mark_code.Given as goal
 
 abbrev pub invariant-loop-instr : goal.invariant-loop-instr
 invariant-loop-instr l = record {
   len : vec_len l.marks ≡ vec_len l.initial.marks;
-  marked : (named : List ℕ) → AreMarks l.initial.marks.items named → AreMarks l.marks.items (named ++ flat_map instr_targets (take l.instr-index l.code));
+  marked : (named : List ℕ) → AreTargetMarks l.initial.marks.items named → AreTargetMarks l.marks.items (named ++ flat_map instr_targets (take l.instr-index l.code));
 }

@@ -3,7 +3,7 @@ use Rattle.abc_file_types.specs.Files.{file_read}
 use Rattle.abc_bodies.proofs.Passing.{filled as bodies_filled}
 use Rattle.std.proofs.lemmas.Result.{err_from_is_err_and}
 use Rattle.abc_varint.specs.declared.error.ReadError.TheVariants as errors
-use Rattle.abc_varint.specs.Reads.{known}
+use Rattle.abc_varint.specs.Reads.{known_input}
 use Rattle.abc_varint.proofs.Inputs.{known_is}
 use Rattle.abc_varint.proofs.Loop.{other_err}
 use Rattle.abc_file.proofs.Passing.{bodies_fail, definitions_fail, joined, pools_stay}
@@ -14,7 +14,7 @@ unfolding file_read
 returns g c =
     let e1 = c.in_ok-pass_version.ensures in let e2 = c.in_ok-pools.ensures in let e4 = c.in_ok-pass_bodies.ensures in
     let w = c.pass_pools.new.w in let s = g.S.Source.left c.pass_pools.new.source in
-    let some = (e2.0.4 (known w s) (known_is w s)).1 in
+    let some = (e2.0.4 (known_input w s) (known_is w s)).1 in
     let e3 = c.in_ok-sizes.ensures some.value some.tells in (
       (
         e1.0.0,
@@ -45,11 +45,11 @@ returns-in_err-sizes g c =
     let p = err_from_is_err_and c.from_residual-in_err-sizes.result c.from_residual-in_err-sizes.ensures.1 in
     let e1 = c.in_ok-pass_version.ensures in let e2 = c.in_ok-pools.ensures in
     let w = c.pass_pools.new.w in let s = g.S.Source.left c.pass_pools.new.source in
-    let some = (e2.0.4 (known w s) (known_is w s)).1 in
+    let some = (e2.0.4 (known_input w s) (known_is w s)).1 in
     let e3 = c.in_err-sizes.ensures some.value some.tells in
     rw (p.1, p.2) (
       (λ k.
-          let input = known c.pass_definitions.new.w (g.S.Source.left c.pass_definitions.new.source) in
+          let input = known_input c.pass_definitions.new.w (g.S.Source.left c.pass_definitions.new.source) in
           let d2 = e2.0.4 input (e3.0 e2.0.1).0 in let d1 = e1.0.4 input d2.0 in let x1 = d1.1 in let x2 = d2.1 in
           let f = (c.in_err-sizes.ensures x2.value x2.tells).0 e2.0.1 in
           (d1.0, definitions_fail c.in_err-sizes.field-0.0 _ _ _ x1.value x2.value x1.read x2.read f.1)),
@@ -64,11 +64,11 @@ returns-in_err-pass_bodies g c =
     let p = err_from_is_err_and c.from_residual-in_err-pass_bodies.result c.from_residual-in_err-pass_bodies.ensures.1 in
     let e1 = c.in_ok-pass_version.ensures in let e2 = c.in_ok-pools.ensures in let e4 = c.in_err-pass_bodies.ensures in
     let w = c.pass_pools.new.w in let s = g.S.Source.left c.pass_pools.new.source in
-    let some = (e2.0.4 (known w s) (known_is w s)).1 in
+    let some = (e2.0.4 (known_input w s) (known_is w s)).1 in
     let e3 = c.in_ok-sizes.ensures some.value some.tells in
     rw (p.1, p.2) (
       (λ k.
-          let f = e4.0 e3.0.1 in let input = known c.pass_bodies.new.w (g.S.Source.left c.pass_bodies.new.source) in
+          let f = e4.0 e3.0.1 in let input = known_input c.pass_bodies.new.w (g.S.Source.left c.pass_bodies.new.source) in
           let d2 = e2.0.4 input (e3.0.4 input f.0).0 in let d1 = e1.0.4 input d2.0 in let x1 = d1.1 in let x2 = d2.1 in
           let x3 = ((c.in_ok-sizes.ensures x2.value x2.tells).0.4 input f.0).1 in
           (d1.0, bodies_fail c.in_err-pass_bodies.field-0.0 _ _ _ _ x1.value x2.value x3.value c.in_ok-sizes.sizes x1.read x2.read x3.read x3.tells f.1)),

@@ -4,7 +4,7 @@ use Rattle.abc_heap_values.specs.Filling.{Filling}
 use Rattle.abc_heap_values.specs.Links.{links, IsChain}
 use Rattle.abc_heap_values.specs.declared.cell.Lane.TheVariants.{Elements}
 use Rattle.abc_heap_store.specs.declared.heads.Head.{Head}
-use Rattle.abc_heap_store.specs.View.{objects, AreHeads}
+use Rattle.abc_heap_store.specs.View.{objects, AreObjectHeads}
 use Rattle.abc_heap_values.specs.declared.cell.Held.TheVariants.{Element}
 use Rattle.abc_heap_store.proofs.Indexed.{added_keeps, element_full}
 use Rattle.abc_heap_store.proofs.Flat.{array_head}
@@ -20,7 +20,7 @@ returns c =
     let e = ap (λ (f : Filling Head). f.items) c.set.ensures in
     record {
       objects = ap (objects c.append-elements.new.cells.items 0) e ∙ g.0;
-      heads = subst (AreHeads (links c.append-elements.new.cells.items)) (sym e) g.1;
+      heads = subst (AreObjectHeads (links c.append-elements.new.cells.items)) (sym e) g.1;
       index = added_keeps c.args.cells.now c.append-elements.new.cells c.args.o (Element c.args.v) c.append-elements.ensures.added c.append-elements.ensures.limit c.requires.room refl (element_full c.args.v);
       sizes = record {
         heads = ap length e ∙ length-set c.args.heads.now.items c.args.o _;

@@ -3,7 +3,7 @@ use Rattle.std.proofs.lemmas.List.{length-set}
 use Rattle.abc_heap_values.specs.Filling.{Filling}
 use Rattle.abc_heap_values.specs.Links.{links}
 use Rattle.abc_heap_store.specs.declared.heads.Head.{Head}
-use Rattle.abc_heap_store.specs.View.{objects, AreHeads}
+use Rattle.abc_heap_store.specs.View.{objects, AreObjectHeads}
 use Rattle.abc_heap_store.proofs.Growth.{property_grown}
 use Rattle.abc_heap_store.proofs.heads.add_property.Goals as goal
 
@@ -16,7 +16,7 @@ returns c =
     let e = ap (λ (f : Filling Head). f.items) c.set.ensures in
     record {
       objects = ap (objects c.append-properties.new.cells.items 0) e ∙ g.0;
-      heads = subst (AreHeads (links c.append-properties.new.cells.items)) (sym e) g.1;
+      heads = subst (AreObjectHeads (links c.append-properties.new.cells.items)) (sym e) g.1;
       added = c.append-properties.ensures.added;
       sizes = record {
         heads = ap length e ∙ length-set c.args.heads.now.items c.args.o _;

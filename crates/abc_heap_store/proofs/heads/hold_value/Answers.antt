@@ -5,7 +5,7 @@ use Rattle.std.specs.Prelude.{FitsSigned}
 use Rattle.abc_heap_values.specs.Lanes.{property_in}
 use Rattle.abc_heap_values.specs.declared.values.Value.{Value}
 use Rattle.abc_heap_values.specs.declared.values.Value.TheVariants.{Num}
-use Rattle.abc_heap_store.specs.Properties.{valued}
+use Rattle.abc_heap_store.specs.Properties.{with_value}
 use Rattle.abc_heap_store.proofs.heads.hold_value.Goals as goal
 
 pub returns-in-Num : goal.returns-in-Num
@@ -14,7 +14,7 @@ returns-in-Num c =
     record {
       now = c.revalued.result;
       lane = c.revalued.ensures.lane;
-      value = c.revalued.ensures.value ∙ ap (λ n. valued (Num n) (property_in c.args.held)) (to_z-of_z w64 c.in-Num.n fits) ∙ ap (λ (x : Value). valued x (property_in c.args.held)) (sym c.in-Num.is);
+      value = c.revalued.ensures.value ∙ ap (λ n. with_value (Num n) (property_in c.args.held)) (to_z-of_z w64 c.in-Num.n fits) ∙ ap (λ (x : Value). with_value x (property_in c.args.held)) (sym c.in-Num.is);
       cells = c.hold.ensures;
     }
 

@@ -1,8 +1,8 @@
-use Rattle.abc_heap_values.specs.Links.{links, IsReached}
+use Rattle.abc_heap_values.specs.Links.{links, IsCellReached}
 use Rattle.abc_heap_values.proofs.chain.place_of.Given as goal
 
 abbrev pub invariant-loop-place : goal.invariant-loop-place
-invariant-loop-place l = IsReached (links l.cells.items) l.from l.place l.position
+invariant-loop-place l = IsCellReached (links l.cells.items) l.from l.place l.position
 
 abbrev pub decreases-loop-place : goal.decreases-loop-place
 decreases-loop-place l = l.place

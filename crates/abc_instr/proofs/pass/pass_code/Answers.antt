@@ -5,7 +5,7 @@ use Rattle.abc_file_types.specs.declared.reason.Reason.TheVariants as reasons
 use Rattle.abc_file_types.specs.Starts.{starts}
 use Rattle.abc_file_types.proofs.Resolving.{missed_within}
 use Rattle.abc_varint.specs.declared.error.ReadError.TheVariants as errors
-use Rattle.abc_varint.specs.Reads.{known}
+use Rattle.abc_varint.specs.Reads.{known_input}
 use Rattle.abc_varint.proofs.Inputs.{known_is}
 use Rattle.abc_varint.proofs.Loop.{other_err}
 use Rattle.abc_instr.specs.Marks.{mark_at}
@@ -84,7 +84,7 @@ returns-in-Err-Target g c =
     let m = is_missed n v.0 c.scan_code.new.scan v.1 v.2 c.args.out.now.items d h in (
       (λ k.
           let w2 = c.scan_code.new.w in let s2 = g.S.Source.left c.scan_code.new.source in
-          let b = v.3.4 (known w2 s2) (known_is w2 s2) in let a = length.0.4 (known w2 s2) b.0 in (a.0, rw c.place-first.ensures.is (code_missed n _ _ _ v.0 d a.1 b.1 m))),
+          let b = v.3.4 (known_input w2 s2) (known_is w2 s2) in let a = length.0.4 (known_input w2 s2) b.0 in (a.0, rw c.place-first.ensures.is (code_missed n _ _ _ v.0 d a.1 b.1 m))),
       (λ e h. absurd (let k = length.0.0 in cc)),
       omega (arith, length.2, c.in_ok-scan_code.ensures.later),
       (λ k h. absurd cc),

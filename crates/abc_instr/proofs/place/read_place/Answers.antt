@@ -2,7 +2,7 @@ use Rattle.std.proofs.Common.{◌≡◌, false, refl, sym, ap}
 use Rattle.std.specs.Prelude.{is_some, nat_eq}
 use Rattle.std.specs.List.{position}
 use Rattle.abc_file_types.specs.Places.{instruction_place}
-use Rattle.abc_varint.specs.Reads.{known}
+use Rattle.abc_varint.specs.Reads.{known_input}
 use Rattle.abc_varint.proofs.Inputs.{known_is}
 use Rattle.abc_instr.proofs.place.read_place.Goals as goal
 
@@ -13,7 +13,7 @@ returns-in-None-clause-value g c =
     let w = c.read_u30.new.w in
     let s = g.S.Source.left c.read_u30.new.source in
     let no : is_some (position (λ s. nat_eq s c.in_ok-x.x) c.args.offsets.now) ≡ false = ap is_some (sym c.in-None.ensures) in (
-      (λ k. let h = v.0.4 (known w s) (known_is w s) in (h.0, rw (h.1, no, c.place-place.ensures.is) refl)),
+      (λ k. let h = v.0.4 (known_input w s) (known_is w s) in (h.0, rw (h.1, no, c.place-place.ensures.is) refl)),
       (λ e h. absurd (let k = v.0.0 in cc)),
       v.2,
       (λ k h. absurd cc),

@@ -1,7 +1,7 @@
 use Rattle.std.proofs.Common.{◌∙◌, ap, arith}
 use Rattle.abc_file_types.specs.Part.{refusal}
 use Rattle.abc_file_types.specs.declared.reason.Reason.TheVariants as reasons
-use Rattle.abc_varint.specs.Reads.{known}
+use Rattle.abc_varint.specs.Reads.{known_input}
 use Rattle.abc_varint.proofs.Inputs.{known_is}
 use Rattle.abc_instr.specs.Reading.{code_from, with_starts}
 use Rattle.abc_instr.proofs.Aiming.{aims_are, code_of, code_read, code_refused, missed_near, places_are, resolved}
@@ -74,7 +74,7 @@ returns-in-Err-Target-clause-value g c =
     let missed = resolved v.0 r v.1 ∙ ap (with_starts r.starts) h in (
       (λ k.
           let w2 = c.read_pieces.new.w in let s2 = g.S.Source.left c.read_pieces.new.source in
-          let b = v.4.4 (known w2 s2) (known_is w2 s2) in let a = length.0.4 (known w2 s2) b.0 in (a.0, rw c.place-first.ensures.is (code_refused n _ _ _ v.0 d a.1 b.1 missed))),
+          let b = v.4.4 (known_input w2 s2) (known_is w2 s2) in let a = length.0.4 (known_input w2 s2) b.0 in (a.0, rw c.place-first.ensures.is (code_refused n _ _ _ v.0 d a.1 b.1 missed))),
       (λ e h. absurd (let k = length.0.0 in cc)),
       omega (arith, length.2, c.in_ok-read_pieces.ensures.later),
       (λ k h. absurd cc),

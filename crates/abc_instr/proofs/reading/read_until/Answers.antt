@@ -3,14 +3,14 @@ use Rattle.std.specs.Prelude.{map}
 use Rattle.std.proofs.lemmas.List.{map-append}
 use Rattle.std.proofs.lemmas.List.Elements.{All-nil, All-push}
 use Rattle.std.proofs.lemmas.Result.{err_from_is_err_and}
-use Rattle.abc_file_types.specs.Ends.{blamed}
+use Rattle.abc_file_types.specs.Ends.{blame_first}
 use Rattle.abc_varint.proofs.Fill.{fill_starts, fill_goes_on, fill_ends, fill_done}
 use Rattle.abc_instr.specs.declared.raw.RawInstr.{RawInstr as Raw}
 use Rattle.abc_file_types.specs.Instructions.{instruction, pieces}
 use Rattle.abc_file_types.proofs.CodeParts.{instruction-exact, instruction-some}
 use Rattle.abc_file_types.proofs.Resolving.{size-push}
 use Rattle.abc_instr.specs.Offsets.{raw_of}
-use Rattle.abc_instr.specs.Reading.{spelled}
+use Rattle.abc_instr.specs.Reading.{raw_instr}
 use Rattle.abc_instr.specs.Scanning.{instrs_in, raws_in}
 use Rattle.abc_instr.proofs.Resolved.{raw_push, raws_len-push}
 use Rattle.abc_instr.proofs.Aiming.{as_few, read_count, reading_push}
@@ -21,8 +21,8 @@ loop-init g c =
     let e = c.begin.ensures in (
       [],
       record {
-        reading = record { starts = e.starts; instrs = ap (map spelled) e.instrs; aims = e.aims };
-        filling = fill_starts (blamed instruction) c.args.byte_count c.args.w.now (g.S.Source.left c.args.source.now) c.requires.fresh c.requires.end;
+        reading = record { starts = e.starts; instrs = ap (map raw_instr) e.instrs; aims = e.aims };
+        filling = fill_starts (blame_first instruction) c.args.byte_count c.args.w.now (g.S.Source.left c.args.source.now) c.requires.fresh c.requires.end;
         some = All-nil (λ (x : Raw × ℕ). 0 < x.1);
         raw = tt;
         size = omega arith;
@@ -53,7 +53,7 @@ loop-preserved g c =
       record {
         reading = reading_push xs x n here c.loop.reading (record c.loop.reading { starts = c.push.new.self }) c.take_next.new.self (omega (arith, inv.size)) inv.reading
             (rw (← c.place-first.ensures.is, ← c.place.ensures.is) c.in_ok-push.ensures) refl refl step.takes;
-        filling = rw raws (fill_goes_on (blamed instruction) c.args.byte_count c.loop.counter (raws_in xs) _ _ _ _ _ _ _ instruction-exact instruction-some inv.room c.loop-test.true
+        filling = rw raws (fill_goes_on (blame_first instruction) c.args.byte_count c.loop.counter (raws_in xs) _ _ _ _ _ _ _ instruction-exact instruction-some inv.room c.loop-test.true
             (omega (arith, c.if-here-byte_count.false, c.place.ensures.is, c.place-first.ensures.is, inv.size)) inv.filling step.says_so);
         some = All-push (λ (p : Raw × ℕ). 0 < p.1) xs (x, n) inv.some (omega (arith, step.moves));
         raw = rw all (raw_push (instrs_in xs) x inv.raw step.raw);
@@ -70,7 +70,7 @@ unfolding pieces
 returns-in_err-take_next-clause-value g c =
     let p = err_from_is_err_and c.from_residual-in_err-take_next.result c.from_residual-in_err-take_next.ensures.1 in
     let inv = c.loop.invariant.1 in
-    rw (p.1, p.2) (λ k. fill_ends c.in_err-take_next.field-0.0 (blamed instruction) c.args.byte_count c.loop.counter (raws_in c.loop.invariant.0) _ _ _ _ _ c.loop-test.true
+    rw (p.1, p.2) (λ k. fill_ends c.in_err-take_next.field-0.0 (blame_first instruction) c.args.byte_count c.loop.counter (raws_in c.loop.invariant.0) _ _ _ _ _ c.loop-test.true
     (omega (arith, c.if-here-byte_count.false, c.place.ensures.is, c.place-first.ensures.is, inv.size)) inv.filling (c.in_err-take_next.ensures.value inv.filling.fresh))
 
 pub returns-after-loop-clause-value : goal.returns-after-loop-clause-value
@@ -82,7 +82,7 @@ returns-after-loop-clause-value g c =
       inv.reading,
       record { some = inv.some; raw = inv.raw; size = omega (arith, inv.size, inv.within); few = omega (arith, inv.few, inv.within) },
       inv.size,
-      fill_done (blamed instruction) c.args.byte_count c.loop.counter (raws_in xs) _ _ _ _ (omega (arith, inv.filling.room.1, c.loop-test.false)) c.requires.fresh inv.filling,
+      fill_done (blame_first instruction) c.args.byte_count c.loop.counter (raws_in xs) _ _ _ _ (omega (arith, inv.filling.room.1, c.loop-test.false)) c.requires.fresh inv.filling,
     )
 
 pub returns-then-here-byte_count-clause-value : goal.returns-then-here-byte_count-clause-value
@@ -94,5 +94,5 @@ returns-then-here-byte_count-clause-value g c =
       inv.reading,
       record { some = inv.some; raw = inv.raw; size = omega (arith, inv.size, inv.within); few = omega (arith, inv.few, inv.within) },
       inv.size,
-      fill_done (blamed instruction) c.args.byte_count c.loop.counter (raws_in xs) _ _ _ _ (omega (arith, c.if-here-byte_count.true, c.place.ensures.is, c.place-first.ensures.is, inv.size)) c.requires.fresh inv.filling,
+      fill_done (blame_first instruction) c.args.byte_count c.loop.counter (raws_in xs) _ _ _ _ (omega (arith, c.if-here-byte_count.true, c.place.ensures.is, c.place-first.ensures.is, inv.size)) c.requires.fresh inv.filling,
     )

@@ -1,6 +1,6 @@
 use Rattle.std.proofs.Common.{◌+◌, ◌-◌, ◌<◌, ◌++◌, ◌∷◌, [], length, length-append, ap, refl, arith}
 use Rattle.std.proofs.lemmas.Result.{err_from_is_err_and}
-use Rattle.abc_varint.specs.View.{held}
+use Rattle.abc_varint.specs.View.{held_bytes}
 use Rattle.abc_instr.specs.Scanning.{raw_bytes}
 use Rattle.abc_instr.proofs.Running.{scan_run}
 use Rattle.abc_instr.proofs.Scanned.{bytes_len, scan_push}
@@ -34,7 +34,7 @@ loop-preserved g c =
     let r = c.in_ok-pass_run.ensures.run in
     let ys = r.run.xs in
     let u = until_run n xs c.args.w.now s0 w s inv.so_far ys r.count w2 r.run.spelled r.run.size r.ready r.is in
-    let scanned = scan_run xs (held w) (c.place.result - c.place-first.result) r.count c.loop.scan c.pass_run.new.self inv.so_far.some inv.so_far.raw (omega (arith, inv.so_far.size, c.place.ensures.is, c.place-first.ensures.is)) inv.scan r.run r.code in
+    let scanned = scan_run xs (held_bytes w) (c.place.result - c.place-first.result) r.count c.loop.scan c.pass_run.new.self inv.so_far.some inv.so_far.raw (omega (arith, inv.so_far.size, c.place.ensures.is, c.place-first.ensures.is)) inv.scan r.run r.code in
     let step = c.in_ok-pass_next.ensures.value in
     let x = step.instr in
     let m = w3.place - w2.place in
@@ -91,7 +91,7 @@ returns-then-here-byte_count-clause-value g c =
     let ys = r.run.xs in
     let u = until_run n xs c.args.w.now s0 w s inv.so_far ys r.count w2 r.run.spelled r.run.size r.ready r.is in (
       xs ++ ys,
-      scan_run xs (held w) (c.place.result - c.place-first.result) r.count c.loop.scan c.pass_run.new.self inv.so_far.some inv.so_far.raw (omega (arith, inv.so_far.size, c.place.ensures.is, c.place-first.ensures.is)) inv.scan r.run r.code,
+      scan_run xs (held_bytes w) (c.place.result - c.place-first.result) r.count c.loop.scan c.pass_run.new.self inv.so_far.some inv.so_far.raw (omega (arith, inv.so_far.size, c.place.ensures.is, c.place-first.ensures.is)) inv.scan r.run r.code,
       until_read n (xs ++ ys) c.args.w.now s0 w2 s u,
       u.size,
       until_done n (xs ++ ys) c.args.w.now s0 w2 s u (omega (arith, c.if-here-byte_count.true, c.place-in-loop.ensures.is, c.place-first.ensures.is, u.size)) c.requires.fresh,

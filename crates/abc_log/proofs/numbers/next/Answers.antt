@@ -2,7 +2,7 @@ use Rattle.std.proofs.Common.{◌∙◌, ◌-◌, length, drop, sym, subst, Some
 use Rattle.std.proofs.lemmas.Bool.Decides.{Decides-eqb}
 use Rattle.std.proofs.lemmas.List.{length-drop, take_all}
 use Rattle.std.proofs.lemmas.Slice.Eq.{strip_prefix_is}
-use Rattle.abc_log.specs.Limits.{EndsAll, is_digit}
+use Rattle.abc_log.specs.Limits.{EndsAll, is_limit_digit}
 use Rattle.abc_log.proofs.Spelling.{no_number, rest_follows}
 use Rattle.abc_log.proofs.numbers.next.Goals as goal
 
@@ -15,4 +15,4 @@ pub returns-clause-ends : goal.returns-clause-ends
 returns-clause-ends c =
     let rest = c.in_ok-rest.rest.now in
     let count = c.digit_count-count.result in
-    subst (EndsAll is_digit) (sym (take_all (length rest - count) (drop count rest) (omega (arith, length-drop count rest)))) (rest_follows rest count c.digit_count-count.ensures)
+    subst (EndsAll is_limit_digit) (sym (take_all (length rest - count) (drop count rest) (omega (arith, length-drop count rest)))) (rest_follows rest count c.digit_count-count.ensures)

@@ -1,5 +1,5 @@
 use Rattle.std.proofs.Common.{◌≢◌, ◌∙◌, ap, sym, subst}
-use Rattle.abc_machine.specs.Runs.{Leaves}
+use Rattle.abc_machine.specs.Runs.{LeavesWorld}
 use Rattle.abc_machine.specs.Spent.{end_for}
 use Rattle.abc_machine.specs.declared.ends.End.{End}
 use Rattle.abc_machine.specs.declared.ends.End.TheVariants.{WriteFault}
@@ -18,7 +18,7 @@ returns-in-Ok-clause-cause g c = cause_ok (g.K.Sink.faults c.args.log.now) (g.K.
 pub returns-in-Ok-clause-leaves : goal.returns-in-Ok-clause-leaves
 returns-in-Ok-clause-leaves g c =
     let p = setting c.args.linked.now g.begun.formulas in
-    subst (λ (e : End). e ≢ WriteFault → Leaves p (runs_for p c.args.fuel.now g.begun.first).world c.log_steps.new.s) (sym c.end_for-end.ensures) (run_leaves p c.args.fuel.now g.begun.first c.log_steps.result c.log_steps.new.s c.log_steps.ensures.leaves)
+    subst (λ (e : End). e ≢ WriteFault → LeavesWorld p (runs_for p c.args.fuel.now g.begun.first).world c.log_steps.new.s) (sym c.end_for-end.ensures) (run_leaves p c.args.fuel.now g.begun.first c.log_steps.result c.log_steps.new.s c.log_steps.ensures.leaves)
 
 pub returns-in-Ok-clause-steps : goal.returns-in-Ok-clause-steps
 returns-in-Ok-clause-steps g c = λ f. c.log_steps.ensures.steps (λ e. f (c.end_for-end.ensures ∙ ap end_for e))

@@ -1,6 +1,6 @@
 use Rattle.std.proofs.Common.{◌≡◌, ◌∙◌, List, refl, sym, ap, subst, arith}
 use Rattle.std.specs.Prelude.{Bool, Err}
-use Rattle.abc_run_calls.specs.Arguments.{IsKnown}
+use Rattle.abc_run_calls.specs.Arguments.{HasArgumentRoom}
 use Rattle.abc_machine.proofs.Sounding.{scripts_there}
 use Rattle.abc_run_finish.specs.declared.halts.Halt.TheVariants.{Fails}
 use Rattle.abc_machine.proofs.Lined.{rose_on}
@@ -24,7 +24,7 @@ pub finish_logged-requires : goal.finish_logged-requires
 finish_logged-requires g c =
     let l = c.args.linked.now in
     let s = c.args.s.now in
-    let known = subst (IsKnown l) (sym c.run_newest.ensures.limit) c.requires.1.1.0.known in
+    let known = subst (HasArgumentRoom l) (sym c.run_newest.ensures.limit) c.requires.1.1.0.known in
     let fair = fair_left l g.out s c.requires.1.1.0 c.requires.1.1.1.0 c.run_newest.new.left c.run_newest.new.s c.run_newest.ensures.leaves in
     λ κs among. (among.0, (among.1, (known, (scripts_there l g.out s c.requires.1.1.0, (c.requires.1.1.1.1.0, (c.run_newest.ensures.finishes, fair))))))
 

@@ -1,6 +1,6 @@
 use Rattle.std.proofs.Common.{◌≢◌, ◌∙◌, sym, ap, subst}
 use Rattle.abc_machine.specs.Ended.{HasRun, RunsAs}
-use Rattle.abc_machine.specs.Runs.{Leaves}
+use Rattle.abc_machine.specs.Runs.{LeavesWorld}
 use Rattle.abc_machine.specs.Spent.{end_for}
 use Rattle.abc_machine.specs.declared.ends.End.{End}
 use Rattle.abc_machine.specs.declared.ends.End.TheVariants.{WriteFault}
@@ -20,7 +20,7 @@ returns-clause-cause g c = subst (HasRun (g.K.Sink.faults c.args.sink.now) (g.K.
 pub returns-clause-leaves : goal.returns-clause-leaves
 returns-clause-leaves g c =
     let p = setting c.args.linked.now g.begun.formulas in
-    subst (λ (e : End). e ≢ WriteFault → Leaves p (runs_for p c.args.fuel.now g.begun.first).world c.take_steps.new.s) (sym c.end_for.ensures) (run_leaves p c.args.fuel.now g.begun.first c.take_steps.result c.take_steps.new.s c.take_steps.ensures.leaves)
+    subst (λ (e : End). e ≢ WriteFault → LeavesWorld p (runs_for p c.args.fuel.now g.begun.first).world c.take_steps.new.s) (sym c.end_for.ensures) (run_leaves p c.args.fuel.now g.begun.first c.take_steps.result c.take_steps.new.s c.take_steps.ensures.leaves)
 
 pub returns-clause-steps : goal.returns-clause-steps
 returns-clause-steps g c = λ f. c.take_steps.ensures.steps (λ e. f (c.end_for.ensures ∙ ap end_for e))

@@ -5,8 +5,8 @@ use Rattle.abc_run_calls.specs.Calls.{CanFinish}
 use Rattle.abc_run_finish.specs.Fairly.{IsFairTurn}
 use Rattle.abc_run_finish.specs.Steps.{StepsIn, left_here}
 use Rattle.abc_run_finish.specs.declared.halts.Halt.{Halt}
-use Rattle.abc_run_state.specs.Outer.{setting, world}
-use Rattle.abc_run_state.specs.Turns.{answered}
+use Rattle.abc_run_state.specs.Outer.{setting_in, world}
+use Rattle.abc_run_state.specs.Turns.{turn_of_answer}
 use Rattle.abc_run_state.specs.declared.state.Left.{Left}
 use Rattle.abc_run_state.specs.declared.state.Left.TheVariants.{Returns}
 use Rattle.abc_run_state.specs.declared.state.Stop.{Stop}
@@ -18,7 +18,7 @@ finish-done-requires g c =
     let s = c.args.s.now in
     let r = c.requires.1.1 in
     let number = r.1.1.1.1.1.0 in
-    λ κs among. (among.0, (among.1, (r.0, (r.1.0, (r.1.1.0, (subst (λ (x : Result Left Stop). CanFinish l x s) number r.1.1.1.0, subst (λ (x : Result Left Stop). IsFairTurn (setting l g.out) (answered (setting l g.out) x (world s g.out) s.frames)) number r.1.1.1.1.0))))))
+    λ κs among. (among.0, (among.1, (r.0, (r.1.0, (r.1.1.0, (subst (λ (x : Result Left Stop). CanFinish l x s) number r.1.1.1.0, subst (λ (x : Result Left Stop). IsFairTurn (setting_in l g.out) (turn_of_answer (setting_in l g.out) x (world s g.out) s.frames)) number r.1.1.1.1.0))))))
 
 pub goes_with-requires : goal.goes_with-requires
 goes_with-requires g c = c.requires.1.1.1.1.1.1.1.1

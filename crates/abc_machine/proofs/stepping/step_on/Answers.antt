@@ -2,7 +2,7 @@ use Rattle.std.proofs.Common.{◌≡◌, ◌≢◌, ℕ, ◌<◌, List, [], ◌�
 use Rattle.std.specs.Prelude.{Ok, Err}
 use Rattle.std.specs.declared.result.Result.{Result}
 use Rattle.abc_heap_values.specs.declared.values.Value.{Value}
-use Rattle.abc_run_calls.specs.Arguments.{IsKnown}
+use Rattle.abc_run_calls.specs.Arguments.{HasArgumentRoom}
 use Rattle.abc_machine.proofs.Sounding.{can_start, scripts_there}
 use Rattle.abc_run_finish.specs.Steps.{StepsAs}
 use Rattle.abc_run_finish.specs.declared.halts.Halt.{Halt}
@@ -35,7 +35,7 @@ finish_left-requires g c =
     let l = c.args.linked.now in
     let s = c.args.s.now in
     let live = some_left s.frames.living c.depth.result c.depth.ensures c.if-depth-eq0.false in
-    let known = subst (IsKnown l) (sym c.run_held.ensures.dispatches.limit) c.requires.1.1.0.known in
+    let known = subst (HasArgumentRoom l) (sym c.run_held.ensures.dispatches.limit) c.requires.1.1.0.known in
     let fair = fair_left l g.out s c.requires.1.1.0 live c.run_held.new.left c.run_held.new.s c.run_held.ensures.dispatches.leaves in
     λ κs among. (among.0, (among.1, (known, (scripts_there l g.out s c.requires.1.1.0, (c.requires.1.1.1.0, (c.run_held.ensures.dispatches.finishes, (fair, c.requires.1.1.1.1.1.1)))))))
 

@@ -1,5 +1,5 @@
 use Rattle.std.proofs.Common.{sym}
-use Rattle.abc_objects.specs.Opening.{class_object}
+use Rattle.abc_objects.specs.Opening.{host_class_object}
 use Rattle.abc_objects.proofs.Steps.{class_room, no_objects, step_on}
 use Rattle.abc_objects.proofs.opening.make_class_objects.Goals as goal
 
@@ -10,4 +10,4 @@ pub make_class_object-requires-clause-room : goal.make_class_object-requires-cla
 make_class_object-requires-clause-room c = class_room c.args.l.now c.args.store.now _ c.args.classes.now c.loop-class.class-index c.linked_law.ensures c.loop-class-test.true c.loop-class.invariant c.requires.room
 
 pub loop-class-preserved : goal.loop-class-preserved
-loop-class-preserved c = step_on (class_object c.args.l.now) c.args.store.now _ _ c.args.classes.now c.loop-class.class-index _ c.loop-class-test.true c.loop-class.invariant c.make_class_object.ensures
+loop-class-preserved c = step_on (host_class_object c.args.l.now) c.args.store.now _ _ c.args.classes.now c.loop-class.class-index _ c.loop-class-test.true c.loop-class.invariant c.make_class_object.ensures

@@ -1,7 +1,7 @@
 use Rattle.std.proofs.Common.{◌≡◌, ◌∙◌, ℕ, ◌+◌, ◌++◌, ap, arith, length, map}
 use Rattle.abc_base.specs.Names.{host_classes}
 use Rattle.abc_heap_store.specs.Heap.{Heap}
-use Rattle.abc_objects.specs.Opening.{class_object, function_objects, global_slots, prototype_object}
+use Rattle.abc_objects.specs.Opening.{host_class_object, function_objects, global_slots, prototype_object}
 use Rattle.abc_objects.proofs.Opened.{names_length}
 use Rattle.abc_objects.proofs.Steps.{built_room, opening_four, opening_made, opening_one, opening_room, opening_three, opening_two}
 use Rattle.abc_objects.proofs.opening.make_opening.Goals as goal
@@ -27,7 +27,7 @@ make_functions-requires-clause-room c =
     let r = opening_room l old c.args.formulas c.requires.objects c.requires.scopes c.requires.room in
     let b = opening_one l old _ c.as_slice-classes.result.now c.linked_law.ensures c.as_slice-classes.ensures c.make_prototypes.ensures in
     let d = opening_two l old _ _ c.as_slice-classes.result.now c.linked_law.ensures c.as_slice-classes.ensures b c.make_class_objects.ensures in
-    built_room old _ (map (prototype_object l) host_classes ++ map (class_object l) host_classes) 28 14 (30 + c.args.formulas + length l.file.scripts) (29 + c.args.formulas + length l.file.scripts + global_slots l) (c.args.formulas + 1) 0 d r (omega arith) (omega arith)
+    built_room old _ (map (prototype_object l) host_classes ++ map (host_class_object l) host_classes) 28 14 (30 + c.args.formulas + length l.file.scripts) (29 + c.args.formulas + length l.file.scripts + global_slots l) (c.args.formulas + 1) 0 d r (omega arith) (omega arith)
 
 pub make_host_object-requires-clause-room : goal.make_host_object-requires-clause-room
 make_host_object-requires-clause-room c =
@@ -38,7 +38,7 @@ make_host_object-requires-clause-room c =
     let b = opening_one l old _ c.as_slice-classes.result.now c.linked_law.ensures c.as_slice-classes.ensures c.make_prototypes.ensures in
     let d = opening_two l old _ _ c.as_slice-classes.result.now c.linked_law.ensures c.as_slice-classes.ensures b c.make_class_objects.ensures in
     let e = opening_three l old _ _ c.args.formulas c.linked_law.ensures d c.make_functions.ensures in
-    built_room old _ (map (prototype_object l) host_classes ++ map (class_object l) host_classes ++ function_objects l c.args.formulas) (28 + (c.args.formulas + 1)) (14 + 0) (30 + c.args.formulas + length l.file.scripts) (29 + c.args.formulas + length l.file.scripts + global_slots l) 1 (length c.args.names.now) e r (omega arith) (omega (arith, n, c.requires.formulas))
+    built_room old _ (map (prototype_object l) host_classes ++ map (host_class_object l) host_classes ++ function_objects l c.args.formulas) (28 + (c.args.formulas + 1)) (14 + 0) (30 + c.args.formulas + length l.file.scripts) (29 + c.args.formulas + length l.file.scripts + global_slots l) 1 (length c.args.names.now) e r (omega arith) (omega (arith, n, c.requires.formulas))
 
 pub make_host_object-requires-clause-few : goal.make_host_object-requires-clause-few
 make_host_object-requires-clause-few c = omega (arith, ap length c.requires.names, names_length c.args.store.now.formulas, c.requires.formulas, c.requires.few)

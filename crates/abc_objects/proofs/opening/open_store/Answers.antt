@@ -1,6 +1,6 @@
 use Rattle.std.proofs.Common.{◌∙◌, ap, arith, length, sym, subst, ℕ}
 use Rattle.std.specs.List.{concat}
-use Rattle.abc_objects.specs.Opening.{IsWithin, opening, opening_counts, property_names}
+use Rattle.abc_objects.specs.Opening.{IsOpeningWithin, opening, opening_counts, property_names}
 use Rattle.abc_objects.proofs.Steps.{property_names_short}
 use Rattle.abc_objects.proofs.opening.open_store.Goals as goal
 
@@ -20,6 +20,6 @@ pub returns : goal.returns
 returns g c =
     let l = c.args.l.now in
     let n = property_names_short (g.H.Host.formulas c.args.host.now) (g.met.H.Host.formed c.args.host.now) in (
-      subst (λ (k : ℕ). IsWithin (opening_counts l k) c.args.limits.now) (c.count-count.ensures ∙ sym n.1) c.in_ok-test_room.ensures,
+      subst (λ (k : ℕ). IsOpeningWithin (opening_counts l k) c.args.limits.now) (c.count-count.ensures ∙ sym n.1) c.in_ok-test_room.ensures,
       c.in_ok-store.ensures ∙ ap (λ fs. opening l fs c.args.limits.now) c.in_ok-formulas.ensures,
     )

@@ -1,6 +1,6 @@
 use Rattle.std.proofs.Common.{Err, List, ℕ, ◌+◌, ◌^◌, ap, arith, subst}
 use Rattle.std.proofs.lemmas.Result.{err_from_is_err_and}
-use Rattle.abc_verify.specs.FileRefusing.{IsRefusedBy}
+use Rattle.abc_verify.specs.FileRefusing.{IsFileRefusedBy}
 use Rattle.abc_replay.specs.Prefaces.{IsVerifiedIn}
 use Rattle.abc_log.proofs.Takings.{takes_more, takes_then}
 use Rattle.abc_replay.proofs.Found.{file_faulty, preface_found, preface_refused}
@@ -11,7 +11,7 @@ pub returns-in_err-verified-clause-refused : goal.returns-in_err-verified-clause
 returns-in_err-verified-clause-refused g c =
     let p = err_from_is_err_and c.from_residual-in_err-verified.result c.from_residual-in_err-verified.ensures.1 in
     let e = c.in_err-verified.field-0.0 in
-    rw (p.1, p.2) (no_front (g.S.Source.left c.args.source.now) (g.S.Source.left c.read_file.new.source) c.in_ok-bytes.bytes.items e c.in_ok-bytes.ensures.file (subst (λ (b : List ℕ). IsRefusedBy b e) c.deref.ensures.value c.in_err-verified.ensures.refused))
+    rw (p.1, p.2) (no_front (g.S.Source.left c.args.source.now) (g.S.Source.left c.read_file.new.source) c.in_ok-bytes.bytes.items e c.in_ok-bytes.ensures.file (subst (λ (b : List ℕ). IsFileRefusedBy b e) c.deref.ensures.value c.in_err-verified.ensures.refused))
 
 pub returns-in_err-verified-clause-cause : goal.returns-in_err-verified-clause-cause
 returns-in_err-verified-clause-cause g c =

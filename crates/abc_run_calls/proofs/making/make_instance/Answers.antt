@@ -13,10 +13,10 @@ use Rattle.abc_objects.specs.Stands.{array_layout}
 use Rattle.abc_link_names.specs.declared.part.LayoutId.{LayoutId}
 use Rattle.abc_link_names.specs.declared.part.Part.TheVariants as parts
 use Rattle.abc_frames.specs.Frame.{Frames, arguments as operands, newest}
-use Rattle.abc_run_state.specs.Outer.{setting, world}
-use Rattle.abc_run_state.specs.Standing.{IsSet, IsThere}
+use Rattle.abc_run_state.specs.Outer.{setting_in, world}
+use Rattle.abc_run_state.specs.Standing.{IsSet, IsStateThere}
 use Rattle.abc_run_state.specs.Stops.{IsOpen, why}
-use Rattle.abc_run_state.specs.Turns.{Halts, bared, turned}
+use Rattle.abc_run_state.specs.Turns.{Halts, bare_newest, turn_of}
 use Rattle.abc_run_state.specs.declared.state.State.{State}
 use Rattle.abc_file_types.specs.declared.tables.Abc.{Abc}
 use Rattle.abc_meaning.specs.World.{Outcome}
@@ -36,7 +36,7 @@ make_object-requires-clause-no_array g c =
 pub returns-in_err-object : goal.returns-in_err-object
 returns-in_err-object g c = record {
   runs =
-      let p = setting c.args.linked.now g.out in
+      let p = setting_in c.args.linked.now g.out in
       let old = c.args.s.now in
       let mid = c.prepare.new.s in
       let new = c.make_object.new.s in
@@ -47,15 +47,15 @@ returns-in_err-object g c = record {
       let full = object_by p c.args.class_object c.args.class c.layout_of-layout.result c.prototype_of-delegate.result (world mid g.out) c.layout_of-layout.ensures c.prototype_of-delegate.ensures.is ∙ c.in_err-object.ensures.part g.out in
       let e = err_from_is_err_and c.from_residual-in_err-object.result c.from_residual-in_err-object.ensures.1 in
       rw (e.1, e.2) (
-      ap (turned p q) (instance_full p c.args.class_object c.args.class c.args.home c.args.instances c.args.count c.args.how (newest q) (drop 1 mid.given.items) (world old g.out) (world mid g.out) (world new g.out) (why c.in_err-object.field-0.0) made full)
-      ∙ ap (λ (k : Frames). Halts (world new g.out) (bared k) (why c.in_err-object.field-0.0)) (sym (c.in_err-object.ensures.stays.frames ∙ c.in_ok-prepare.ensures.makes.frames)));
+      ap (turn_of p q) (instance_full p c.args.class_object c.args.class c.args.home c.args.instances c.args.count c.args.how (newest q) (drop 1 mid.given.items) (world old g.out) (world mid g.out) (world new g.out) (why c.in_err-object.field-0.0) made full)
+      ∙ ap (λ (k : Frames). Halts (world new g.out) (bare_newest k) (why c.in_err-object.field-0.0)) (sym (c.in_err-object.ensures.stays.frames ∙ c.in_ok-prepare.ensures.makes.frames)));
   limit = search rules;
 }
 
 pub put_on-requires : goal.put_on-requires
 put_on-requires g c =
     let l = c.args.linked.now in
-    let p = setting l g.out in
+    let p = setting_in l g.out in
     let old = c.args.s.now in
     let mid = c.prepare.new.s in
     let new = c.make_object.new.s in
@@ -71,7 +71,7 @@ put_on-requires g c =
     let object = object_by p c.args.class_object c.args.class c.layout_of-layout.result c.prototype_of-delegate.result (world mid g.out) c.layout_of-layout.ensures c.prototype_of-delegate.ensures.is ∙ c.in_ok-object.ensures.part g.out in
     let is = instance_puts p c.args.class_object c.args.class c.args.home c.args.instances c.args.count c.args.how q new.frames c.get.result.now.iinit c.keeping-taken.result.0 c.keeping-taken.result.1 mid.given.items c.set.new.self.items made (world old g.out) (world mid g.out) (world new g.out)
     same maker c.keeping-taken.ensures.taken c.keeping-taken.ensures.wait some items c.in_ok-prepare.ensures.part object in
-    let set1 : IsSet l mid = record { over = makes.over; frame = subst (λ (r : Frames). IsThere l mid.arena (newest r)) (sym makes.frames) (there_grown l old.arena mid.arena (newest q) makes.grows c.requires.0.set.frame) } in
+    let set1 : IsSet l mid = record { over = makes.over; frame = subst (λ (r : Frames). IsStateThere l mid.arena (newest r)) (sym makes.frames) (there_grown l old.arena mid.arena (newest q) makes.grows c.requires.0.set.frame) } in
     let set2 = set_stays l mid new stays set1 in
     let state : State = record new { given = c.set.new.self } in
     let set3 : IsSet l state = record { over = set2.over; frame = set2.frame } in
@@ -93,7 +93,7 @@ pub returns : goal.returns
 returns g c = record {
   runs =
       let l = c.args.linked.now in
-      let p = setting l g.out in
+      let p = setting_in l g.out in
       let old = c.args.s.now in
       let mid = c.prepare.new.s in
       let new = c.make_object.new.s in

@@ -2,7 +2,7 @@ use Rattle.std.proofs.Common.{◌≤◌, ◌<◌, ◌∙◌, ap, subst, sym, ari
 use Rattle.std.proofs.lemmas.Result.{err_from_is_err_and}
 use Rattle.abc_heap_values.specs.declared.values.Value.{Value}
 use Rattle.abc_frames.specs.Frame.{newest}
-use Rattle.abc_run_state.specs.Outer.{setting, world}
+use Rattle.abc_run_state.specs.Outer.{setting_in, world}
 use Rattle.abc_run_state.specs.Stops.{why}
 use Rattle.abc_meaning.specs.Ops.{spells}
 use Rattle.abc_run_calls.proofs.Told.{message_made, message_stops}
@@ -10,7 +10,7 @@ use Rattle.abc_run_calls.proofs.messages.message_of.Goals as goal
 
 pub returns-in_err-text-clause-part : goal.returns-in_err-text-clause-part
 returns-in_err-text-clause-part g c =
-    let p = setting c.args.linked.now g.out in
+    let p = setting_in c.args.linked.now g.out in
     let w = world c.args.s.now g.out in
     let e = err_from_is_err_and c.from_residual.result c.from_residual.ensures.1 in
     let none = c.if-count-eq0.false in
@@ -20,7 +20,7 @@ returns-in_err-text-clause-part g c =
 
 pub returns-clause-part : goal.returns-clause-part
 returns-clause-part g c =
-    let p = setting c.args.linked.now g.out in
+    let p = setting_in c.args.linked.now g.out in
     let w = world c.args.s.now g.out in
     let none = c.if-count-eq0.false in
     let some : 0 < c.args.count = omega (arith, none) in

@@ -4,26 +4,26 @@ use Rattle.abc_run_dispatch.specs.Dispatching.{CanDispatch, DispatchesHere}
 use Rattle.abc_run_state.proofs.AtOnce.{is_done, not_done}
 use Rattle.abc_run_values.specs.Here.{act_here}
 use Rattle.abc_frames.specs.Frame.{newest}
-use Rattle.abc_run_state.specs.Outer.{setting}
+use Rattle.abc_run_state.specs.Outer.{setting_in}
 use Rattle.abc_run_state.specs.declared.state.State.{State}
 use Rattle.abc_file_types.specs.declared.code.Instr.TheVariants.{One}
 use Rattle.abc_run_dispatch.proofs.arms.property_arm.Goals as goal
 
 pub returns-then-run_property_fast : goal.returns-then-run_property_fast
 returns-then-run_property_fast g c =
-    let act = act_here (setting c.args.linked.now g.out) (newest c.args.s.now.frames) (One c.args.op c.args.n) in
+    let act = act_here (setting_in c.args.linked.now g.out) (newest c.args.s.now.frames) (One c.args.op c.args.n) in
     dispatches_done c.args.linked.now g.out c.args.s.now (One c.args.op c.args.n) c.run_property_fast.new.s _ _ c.requires.0.none (is_done _ c.args.linked.now g.out act c.args.s.now c.run_property_fast.new.s c.run_property_fast.ensures c.if-run_property_fast.true)
 
 pub run_property-requires : goal.run_property-requires
 run_property-requires g c =
-    let act = act_here (setting c.args.linked.now g.out) (newest c.args.s.now.frames) (One c.args.op c.args.n) in
+    let act = act_here (setting_in c.args.linked.now g.out) (newest c.args.s.now.frames) (One c.args.op c.args.n) in
     let same = not_done _ c.args.linked.now g.out act c.args.s.now c.run_property_fast.new.s c.run_property_fast.ensures c.if-run_property_fast.false in
     let can = subst (λ (x : State). CanDispatch c.args.linked.now g.out (One c.args.op c.args.n) x c.args.left.now) (sym same) c.requires.0 in
     (can.run, (can.equipped.known, c.requires.1))
 
 pub returns : goal.returns
 returns g c =
-    let act = act_here (setting c.args.linked.now g.out) (newest c.args.s.now.frames) (One c.args.op c.args.n) in
+    let act = act_here (setting_in c.args.linked.now g.out) (newest c.args.s.now.frames) (One c.args.op c.args.n) in
     let same = not_done _ c.args.linked.now g.out act c.args.s.now c.run_property_fast.new.s c.run_property_fast.ensures c.if-run_property_fast.false in
     let does = dispatches_run c.args.linked.now g.out c.run_property_fast.new.s (One c.args.op c.args.n) c.run_property.new.s c.goes.result c.goes.new.left c.goes.ensures.goes c.run_property.result c.run_property.ensures c.goes.ensures.left in
     subst (λ (x : State). DispatchesHere c.args.linked.now g.out (One c.args.op c.args.n) x c.goes.result c.goes.new.left c.run_property.new.s) same does

@@ -5,8 +5,8 @@ use Rattle.abc_run_dispatch.specs.Ready.{CanStep}
 use Rattle.abc_link_names.specs.Linked.{LinkedFile}
 use Rattle.abc_frames.specs.Frame.{newest}
 use Rattle.abc_meaning.specs.At.{Act}
-use Rattle.abc_run_state.specs.Outer.{Outer, setting, world}
-use Rattle.abc_run_state.specs.Turns.{turned}
+use Rattle.abc_run_state.specs.Outer.{Outer, setting_in, world}
+use Rattle.abc_run_state.specs.Turns.{turn_of}
 use Rattle.abc_meaning.specs.World.{Outcome}
 use Rattle.abc_run_state.specs.declared.state.State.{State}
 use Rattle.abc_file_types.specs.declared.code.Instr.{Instr}
@@ -34,11 +34,11 @@ run_instr-requires g c =
 pub returns-clause-dispatches : goal.returns-clause-dispatches
 returns-clause-dispatches g c =
     let can = c.requires.0 in
-    let p = setting c.args.linked.now g.out in
+    let p = setting_in c.args.linked.now g.out in
     let q = c.args.s.now.frames in
     let does = c.run_instr.ensures in
     record {
-      leaves = ap (λ (o : Outcome Act). turned p q o) (runs_here p (world c.args.s.now g.out) (newest q) can.routine c.instr_here-instr.result.now can.body (c.instr_here-instr.ensures can.routine can.body)) ∙ does.leaves;
+      leaves = ap (λ (o : Outcome Act). turn_of p q o) (runs_here p (world c.args.s.now g.out) (newest q) can.routine c.instr_here-instr.result.now can.body (c.instr_here-instr.ensures can.routine can.body)) ∙ does.leaves;
       finishes = does.finishes;
       goes = does.goes;
       limit = does.limit;

@@ -1,5 +1,5 @@
 use Rattle.std.proofs.Common.{◌+◌}
-use Rattle.abc_run_state.specs.Outer.{setting}
+use Rattle.abc_run_state.specs.Outer.{setting_in}
 use Rattle.abc_run_members.specs.Members.{parts_at}
 use Rattle.abc_file_types.specs.declared.code.Instr.TheVariants.{Two}
 use Rattle.abc_run_values.proofs.Doing.{open_as, turns_as}
@@ -14,10 +14,10 @@ taken_with-taken-requires g c = c.requires.0.spelled.2
 
 pub call_super-requires : goal.call_super-requires
 call_super-requires g c =
-    let d = op_4E c.args.linked.now g.out c.args.s.now c.args.n c.args.count c.taken_with-taken.result c.layout_here-from.result (c.taken_with-taken.ensures g.out) c.layout_here-from.ensures.is c.requires.0 in (record { set = c.requires.0.set; known = c.requires.1; free = open_as c.args.linked.now g.out c.args.s.now (Two 0x4E c.args.n c.args.count) (c.args.count + parts_at (setting c.args.linked.now g.out) c.args.n + 1) 0 _ d c.requires.0.free }, (d.ready, (c.requires.0.spelled.2, (c.taken_with-taken.ensures g.out, c.layout_here-from.ensures.layout))))
+    let d = op_4E c.args.linked.now g.out c.args.s.now c.args.n c.args.count c.taken_with-taken.result c.layout_here-from.result (c.taken_with-taken.ensures g.out) c.layout_here-from.ensures.is c.requires.0 in (record { set = c.requires.0.set; known = c.requires.1; free = open_as c.args.linked.now g.out c.args.s.now (Two 0x4E c.args.n c.args.count) (c.args.count + parts_at (setting_in c.args.linked.now g.out) c.args.n + 1) 0 _ d c.requires.0.free }, (d.ready, (c.requires.0.spelled.2, (c.taken_with-taken.ensures g.out, c.layout_here-from.ensures.layout))))
 
 pub returns-clause-leaves : goal.returns-clause-leaves
 returns-clause-leaves g c = record {
-  leaves = turns_as c.args.linked.now g.out c.args.s.now (Two 0x4E c.args.n c.args.count) (c.args.count + parts_at (setting c.args.linked.now g.out) c.args.n + 1) 0 _ _ (op_4E c.args.linked.now g.out c.args.s.now c.args.n c.args.count c.taken_with-taken.result c.layout_here-from.result (c.taken_with-taken.ensures g.out) c.layout_here-from.ensures.is c.requires.0) c.call_super.ensures.leaves;
+  leaves = turns_as c.args.linked.now g.out c.args.s.now (Two 0x4E c.args.n c.args.count) (c.args.count + parts_at (setting_in c.args.linked.now g.out) c.args.n + 1) 0 _ _ (op_4E c.args.linked.now g.out c.args.s.now c.args.n c.args.count c.taken_with-taken.result c.layout_here-from.result (c.taken_with-taken.ensures g.out) c.layout_here-from.ensures.is c.requires.0) c.call_super.ensures.leaves;
   limit = c.call_super.ensures.limit;
 }

@@ -1,5 +1,5 @@
 use Rattle.std.proofs.Common.{◌+◌}
-use Rattle.abc_run_state.specs.Outer.{setting}
+use Rattle.abc_run_state.specs.Outer.{setting_in}
 use Rattle.abc_run_members.specs.Members.{parts_at}
 use Rattle.abc_file_types.specs.declared.code.Instr.TheVariants.{One}
 use Rattle.abc_run_values.proofs.Doing.{open_as, turns_as}
@@ -11,10 +11,10 @@ layout_here-from-requires g c = record { live = c.requires.0.live; home = home_0
 
 pub set_super-requires : goal.set_super-requires
 set_super-requires g c =
-    let d = op_05 c.args.linked.now g.out c.args.s.now c.args.n c.layout_here-from.result c.layout_here-from.ensures.is c.requires.0 in (record { set = c.requires.0.set; known = c.requires.1; free = open_as c.args.linked.now g.out c.args.s.now (One 0x05 c.args.n) (parts_at (setting c.args.linked.now g.out) c.args.n + 2) 0 _ d c.requires.0.free }, (d.ready, c.layout_here-from.ensures.layout))
+    let d = op_05 c.args.linked.now g.out c.args.s.now c.args.n c.layout_here-from.result c.layout_here-from.ensures.is c.requires.0 in (record { set = c.requires.0.set; known = c.requires.1; free = open_as c.args.linked.now g.out c.args.s.now (One 0x05 c.args.n) (parts_at (setting_in c.args.linked.now g.out) c.args.n + 2) 0 _ d c.requires.0.free }, (d.ready, c.layout_here-from.ensures.layout))
 
 pub returns : goal.returns
 returns g c = record {
-  runs = turns_as c.args.linked.now g.out c.args.s.now (One 0x05 c.args.n) (parts_at (setting c.args.linked.now g.out) c.args.n + 2) 0 _ _ (op_05 c.args.linked.now g.out c.args.s.now c.args.n c.layout_here-from.result c.layout_here-from.ensures.is c.requires.0) c.set_super.ensures.runs;
+  runs = turns_as c.args.linked.now g.out c.args.s.now (One 0x05 c.args.n) (parts_at (setting_in c.args.linked.now g.out) c.args.n + 2) 0 _ _ (op_05 c.args.linked.now g.out c.args.s.now c.args.n c.layout_here-from.result c.layout_here-from.ensures.is c.requires.0) c.set_super.ensures.runs;
   limit = c.set_super.ensures.limit;
 }

@@ -6,18 +6,18 @@ use Rattle.std.proofs.lemmas.List.{drop_all}
 use Rattle.abc_heap_values.proofs.Parts.{slice_get_some}
 use Rattle.abc_heap_values.specs.declared.values.Value.TheVariants.{Undefined}
 use Rattle.abc_run_calls.proofs.Offered.{argument_first, enough_given, option_exists, option_first, option_within, unoffered}
-use Rattle.abc_run_calls.specs.Arguments.{first_of}
-use Rattle.abc_run_state.specs.Outer.{setting}
+use Rattle.abc_run_calls.specs.Arguments.{first_or_option}
+use Rattle.abc_run_state.specs.Outer.{setting_in}
 use Rattle.abc_meaning.specs.Setting.{options_of}
 use Rattle.abc_file_types.specs.declared.methods.OptionValue.{OptionValue}
 use Rattle.abc_run_finish.proofs.call_arguments.argument.Goals as goal
 
 pub returns-then-k-args-clause-part : goal.returns-then-k-args-clause-part
 returns-then-k-args-clause-part c = λ out w.
-    let p = setting c.args.linked.now out in
+    let p = setting_in c.args.linked.now out in
     let os = drop c.args.k (options_of c.args.method.now) in
     let args = c.args.args.now in
-    ap (λ vs. first_of p os vs w) (drop-cons args c.args.k Undefined c.if-k-args.true)
+    ap (λ vs. first_or_option p os vs w) (drop-cons args c.args.k Undefined c.if-k-args.true)
     ∙ argument_first p os _ (drop (suc c.args.k) args) w
 
 pub unreachable-requires : goal.unreachable-requires
@@ -31,14 +31,14 @@ unreachable-requires c =
 
 pub returns-clause-part : goal.returns-clause-part
 returns-clause-part c = λ out w.
-    let p = setting c.args.linked.now out in
+    let p = setting_in c.args.linked.now out in
     let m = c.args.method.now in
     let first : c.saturating_sub-first.result ≡ unoffered m = omega (arith, c.saturating_sub-first.ensures, c.len.ensures, c.len-2.ensures) in
     let past : length c.args.args.now ≤ c.args.k = omega (arith, c.if-k-args.false) in
     let enough = enough_given m (length c.args.args.now) c.requires.takes in
     let is : slice_get m.options (c.args.k - unoffered m) ≡ Some c.in-Some.option = sym (c.fetch.ensures ∙ ap (λ n. slice_get m.options (c.args.k - n)) first) ∙ c.in-Some.is in
-    ap (λ vs. first_of p (drop c.args.k (options_of m)) vs w) (drop_all c.args.k c.args.args.now past)
-    ∙ ap (λ os. first_of p os [] w) (option_first m c.args.k c.in-Some.option (omega (arith, enough, past)) is)
+    ap (λ vs. first_or_option p (drop c.args.k (options_of m)) vs w) (drop_all c.args.k c.args.args.now past)
+    ∙ ap (λ os. first_or_option p os [] w) (option_first m c.args.k c.in-Some.option (omega (arith, enough, past)) is)
     ∙ c.option_given.ensures out w
 
 pub returns-clause-there : goal.returns-clause-there

@@ -1,14 +1,14 @@
 use Rattle.std.proofs.Common.{◌<◌, ◌∙◌, List, length, drop, ap, subst, sym, arith}
 use Rattle.std.proofs.lemmas.Result.{err_from_is_err_and}
 use Rattle.abc_heap_values.specs.declared.values.Value.{Value}
-use Rattle.abc_run_calls.specs.Arguments.{receiver}
-use Rattle.abc_run_calls.specs.Entering.{placed}
+use Rattle.abc_run_calls.specs.Arguments.{first_receiver}
+use Rattle.abc_run_calls.specs.Entering.{place_in_meaning}
 use Rattle.abc_run_finish.proofs.Started.{begins_stops}
 use Rattle.abc_run_finish.specs.Starting.{begins, frames_alone}
 use Rattle.abc_run_state.proofs.Keeping.{each_grown}
 use Rattle.abc_link_names.specs.declared.types.Owner.{Owner}
 use Rattle.abc_frames.specs.Frame.{Frame, Frames}
-use Rattle.abc_run_state.specs.Outer.{setting, world}
+use Rattle.abc_run_state.specs.Outer.{setting_in, world}
 use Rattle.abc_run_state.specs.Stops.{IsOpen, why}
 use Rattle.abc_meaning.specs.Objects.{place_of_owner}
 use Rattle.abc_meaning.specs.World.{Outcome}
@@ -18,26 +18,26 @@ use Rattle.abc_run_finish.proofs.calling.enter_alone.Goals as goal
 
 pub place_of_owner-at-requires : goal.place_of_owner-at-requires
 place_of_owner-at-requires g c =
-    let p = setting c.args.linked.now g.out in
+    let p = setting_in c.args.linked.now g.out in
     let w = world c.args.s.now g.out in
     (c.requires.0, subst (λ (o : Owner). IsOpen (place_of_owner o w)) (sym c.owner.ensures) (place_open p c.args.method c.args.args.now w c.requires.1.1.1.1.1.1.1))
 
 pub prepare-requires : goal.prepare-requires
 prepare-requires g c =
-    let p = setting c.args.linked.now g.out in
+    let p = setting_in c.args.linked.now g.out in
     let w = world c.args.s.now g.out in
-    let at = placed c.place_of_owner-at.result in
+    let at = place_in_meaning c.place_of_owner-at.result in
     let place = ap (λ (o : Owner). place_of_owner o w) (sym c.owner.ensures) ∙ c.place_of_owner-at.ensures in
     (c.requires.0, (c.requires.1.0, (c.requires.1.1.0, (c.requires.1.1.1.1.0, last_open p c.args.method c.args.args.now w c.last_global-this.result at (c.last_global-this.ensures g.out) place c.requires.1.1.1.1.1.1.1))))
 
 pub returns-in_err-prepare-clause-begins : goal.returns-in_err-prepare-clause-begins
 returns-in_err-prepare-clause-begins g c =
-    let p = setting c.args.linked.now g.out in
+    let p = setting_in c.args.linked.now g.out in
     let s = c.args.s.now in
     let w = world s g.out in
     let m = c.args.method in
     let given = c.args.args.now in
-    let at = placed c.place_of_owner-at.result in
+    let at = place_in_meaning c.place_of_owner-at.result in
     let place = ap (λ (o : Owner). place_of_owner o w) (sym c.owner.ensures) ∙ c.place_of_owner-at.ensures in
     let after = world c.prepare.new.s g.out in
     let reason = why c.in_err-prepare.field-0.0 in
@@ -49,12 +49,12 @@ returns-in_err-prepare-clause-begins g c =
 pub put_alone-requires : goal.put_alone-requires
 put_alone-requires g c =
     let l = c.args.linked.now in
-    let p = setting l g.out in
+    let p = setting_in l g.out in
     let s = c.args.s.now in
     let w = world s g.out in
     let m = c.args.method in
     let given = c.args.args.now in
-    let at = placed c.place_of_owner-at.result in
+    let at = place_in_meaning c.place_of_owner-at.result in
     let place = ap (λ (o : Owner). place_of_owner o w) (sym c.owner.ensures) ∙ c.place_of_owner-at.ensures in
     let mid = c.prepare.new.s in
     let makes = c.in_ok-prepare.ensures.makes in
@@ -66,15 +66,15 @@ put_alone-requires g c =
 
 pub returns-clause-begins : goal.returns-clause-begins
 returns-clause-begins g c =
-    let p = setting c.args.linked.now g.out in
+    let p = setting_in c.args.linked.now g.out in
     let s = c.args.s.now in
     let w = world s g.out in
     let m = c.args.method in
     let given = c.args.args.now in
-    let at = placed c.place_of_owner-at.result in
+    let at = place_in_meaning c.place_of_owner-at.result in
     let place = ap (λ (o : Owner). place_of_owner o w) (sym c.owner.ensures) ∙ c.place_of_owner-at.ensures in
     let mid = c.prepare.new.s in
     let items = mid.given.items in
     let is = last_alone p m given w c.last_global-this.result at (c.last_global-this.ensures g.out) place items (world mid g.out) c.in_ok-prepare.ensures.given.0 c.in_ok-prepare.ensures.part in
-    let o : Outcome Frame = frames_alone p m at (receiver items) (drop 1 items) given (world mid g.out) in
+    let o : Outcome Frame = frames_alone p m at (first_receiver items) (drop 1 items) given (world mid g.out) in
     ap (begins p s.frames) is ∙ ap (λ (k : Frames). begins p k o) (sym c.in_ok-prepare.ensures.makes.frames) ∙ c.put_alone.ensures.begins

@@ -2,8 +2,8 @@ use Rattle.std.proofs.Common.{◌∙◌, refl, ap, subst, sym, arith}
 use Rattle.std.specs.Prelude.{Ok, Err}
 use Rattle.std.specs.declared.result.Result.{Result}
 use Rattle.abc_heap_values.specs.declared.values.Value.{Value}
-use Rattle.abc_run_state.specs.Outer.{setting, world}
-use Rattle.abc_run_state.specs.Turns.{answered}
+use Rattle.abc_run_state.specs.Outer.{setting_in, world}
+use Rattle.abc_run_state.specs.Turns.{turn_of_answer}
 use Rattle.abc_run_state.specs.declared.state.Left.{Left}
 use Rattle.abc_run_state.specs.declared.state.Left.TheVariants as lefts
 use Rattle.abc_run_state.specs.declared.state.Stop.{Stop}
@@ -47,10 +47,10 @@ returns-in-Err-clause-value g c = λ x e. absurd (no_return c.stopped.result x (
 pub returns-in-Err-clause-step : goal.returns-in-Err-clause-step
 returns-in-Err-clause-step g c =
     let l = c.args.linked.now in
-    let p = setting l g.out in
+    let p = setting_in l g.out in
     let s = c.args.s.now in
     let sink = g.K.Sink.written c.args.sink.now in
-    let can = can_stop l g.out s c.in-Err.stop (subst (λ (x : Result Left Stop). IsFairTurn p (answered p x (world s g.out) s.frames)) c.in-Err.is c.requires.1.1.1.1.1.1) in
+    let can = can_stop l g.out s c.in-Err.stop (subst (λ (x : Result Left Stop). IsFairTurn p (turn_of_answer p x (world s g.out) s.frames)) c.in-Err.is c.requires.1.1.1.1.1.1) in
     subst (λ (x : Result Left Stop). StepsIn (left_here l g.out s x) g.out c.halted-in-Err.result c.stopped.new.s sink sink) (sym c.in-Err.is)
     (subst (λ (r : Result Unit Halt). StepsIn (left_here l g.out s (Err c.in-Err.stop)) g.out r c.stopped.new.s sink sink) (sym c.halted-in-Err.ensures)
     (ended_in (left_here l g.out s (Err c.in-Err.stop)) g.out c.stopped.result c.stopped.new.s sink sink (can.is ∙ c.stopped.ensures.step) refl))

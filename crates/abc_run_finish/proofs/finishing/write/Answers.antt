@@ -3,10 +3,10 @@ use Rattle.std.specs.Prelude.{Err}
 use Rattle.std.specs.declared.result.Result.{Result}
 use Rattle.abc_run_finish.specs.Outward.{TracesAs}
 use Rattle.abc_run_finish.specs.declared.outward_halts.Unwritten.{Unwritten}
-use Rattle.abc_run_state.specs.Outer.{setting, world}
-use Rattle.abc_run_state.specs.Turns.{Turned, traced}
+use Rattle.abc_run_state.specs.Outer.{setting_in, world}
+use Rattle.abc_run_state.specs.Turns.{Turned, turn_of_trace}
 use Rattle.abc_run_finish.specs.Fairly.{IsFairTurn}
-use Rattle.abc_run_finish.specs.Steps.{StepsIn, stepped}
+use Rattle.abc_run_finish.specs.Steps.{StepsIn, step_of_turn}
 use Rattle.abc_run_finish.specs.declared.halts.Halt.{Halt}
 use Rattle.abc_run_finish.proofs.Finished.{ended_in, failed_in, no_failure, no_return, wrote_in}
 use Rattle.abc_run_finish.proofs.Stepped.{can_stop}
@@ -17,7 +17,7 @@ returns-in-Ok-clause-step g c = wrote_in c.args.linked.now g.out c.args.count c.
 
 pub returns-in-Ok-clause-leaves : goal.returns-in-Ok-clause-leaves
 returns-in-Ok-clause-leaves g c =
-    let p = setting c.args.linked.now g.out in
+    let p = setting_in c.args.linked.now g.out in
     record {
       sized = λ h. (subst (λ (t : Turned). IsFairTurn p t) c.in-Ok.ensures.traces.goes c.requires.1.1.1).held.sized;
       later = c.in-Ok.ensures.later;
@@ -28,7 +28,7 @@ returns-in-Ok-clause-leaves g c =
 pub stopped-requires : goal.stopped-requires
 stopped-requires g c =
     let l = c.args.linked.now in
-    let p = setting l g.out in
+    let p = setting_in l g.out in
     let new = c.trace.new.s in
     let told = subst (λ (x : Unwritten). TracesAs l g.out c.args.count c.args.how c.args.s.now (Err x) new (g.K.Sink.written c.args.sink.now) (g.K.Sink.written c.trace.new.sink)) c.in-Err-Stops.field-0-is c.in-Err-Stops.ensures.traces in
     let can = can_stop l g.out new c.in-Err-Stops.stop (subst (λ (t : Turned). IsFairTurn p t) told.0 c.requires.1.1.1) in
@@ -37,7 +37,7 @@ stopped-requires g c =
 pub returns-in-Err-Stops-clause-step : goal.returns-in-Err-Stops-clause-step
 returns-in-Err-Stops-clause-step g c =
     let l = c.args.linked.now in
-    let p = setting l g.out in
+    let p = setting_in l g.out in
     let s = c.args.s.now in
     let mid = c.trace.new.s in
     let new = c.stopped.new.s in
@@ -45,9 +45,9 @@ returns-in-Err-Stops-clause-step g c =
     let now = g.K.Sink.written c.trace.new.sink in
     let told = subst (λ (x : Unwritten). TracesAs l g.out c.args.count c.args.how s (Err x) mid before now) c.in-Err-Stops.field-0-is c.in-Err-Stops.ensures.traces in
     let can = can_stop l g.out mid c.in-Err-Stops.stop (subst (λ (t : Turned). IsFairTurn p t) told.0 c.requires.1.1.1) in
-    let left = stepped p (traced p c.args.count c.args.how (world s g.out) s.frames) in
+    let left = step_of_turn p (turn_of_trace p c.args.count c.args.how (world s g.out) s.frames) in
     subst (λ (r : Result Unit Halt). StepsIn left g.out r new before now) (sym c.halted.ensures)
-    (ended_in left g.out c.stopped.result new before now (ap (stepped p) told.0 ∙ can.is ∙ c.stopped.ensures.step) told.1)
+    (ended_in left g.out c.stopped.result new before now (ap (step_of_turn p) told.0 ∙ can.is ∙ c.stopped.ensures.step) told.1)
 
 pub returns-in-Err-Stops-clause-leaves : goal.returns-in-Err-Stops-clause-leaves
 returns-in-Err-Stops-clause-leaves g c = record {

@@ -3,7 +3,7 @@ use Rattle.std.proofs.lemmas.List.{length-set}
 use Rattle.std.proofs.lemmas.Result.{err_from_is_err_and}
 use Rattle.abc_heap_values.specs.declared.values.Value.{Value}
 use Rattle.abc_frames.specs.Frame.{Frames, newest}
-use Rattle.abc_run_state.specs.Outer.{setting, world}
+use Rattle.abc_run_state.specs.Outer.{setting_in, world}
 use Rattle.abc_run_state.specs.Stops.{why}
 use Rattle.abc_meaning.specs.Ops.{converts}
 use Rattle.abc_run_state.proofs.Keeping.{operands_on, operands_same, same_operands, set_operand_set, set_stays}
@@ -25,7 +25,7 @@ set_operand-requires g c =
 pub loop-left-preserved : goal.loop-left-preserved
 loop-left-preserved g c =
     let l = c.args.linked.now in
-    let p = setting l g.out in
+    let p = setting_in l g.out in
     let f = converts p c.args.to in
     let old = c.loop-left.s in
     let mid = c.convert.new.s in
@@ -49,13 +49,13 @@ loop-left-preserved g c =
 
 pub returns-clause-part : goal.returns-clause-part
 returns-clause-part g c =
-    let p = setting c.args.linked.now g.out in
+    let p = setting_in c.args.linked.now g.out in
     let none : c.loop-left.left ≡ 0 = omega arith in
     c.loop-left.invariant.part ∙ ap (λ k. turned_at (converts p c.args.to) k (newest c.loop-left.s.frames).stack (world c.loop-left.s g.out)) none
 
 pub returns-in_err-made-clause-part : goal.returns-in_err-made-clause-part
 returns-in_err-made-clause-part g c =
-    let p = setting c.args.linked.now g.out in
+    let p = setting_in c.args.linked.now g.out in
     let f = converts p c.args.to in
     let old = c.loop-left.s in
     let e = err_from_is_err_and c.from_residual.result c.from_residual.ensures.1 in

@@ -8,18 +8,18 @@ use mir.Val.{of_z, to_z}
 use Rattle.abc_heap_values.specs.declared.values.Value.TheVariants.{Num, Obj}
 use Rattle.abc_heap_store.specs.Heap.{Heap}
 use Rattle.abc_heap_store.specs.Texts.{IsTextMade}
-use Rattle.abc_meaning.specs.Names.{named}
-use Rattle.abc_frames.specs.Ready.{IsReady}
-use Rattle.abc_run_names.specs.Named.{parts_count}
+use Rattle.abc_meaning.specs.Names.{name_by_form}
+use Rattle.abc_frames.specs.Ready.{HasFrameRoom}
+use Rattle.abc_run_names.specs.Named.{name_parts_count}
 use Rattle.abc_run_members.proofs.Parts.{next_turns}
 use Rattle.abc_run_members.proofs.Settled.{value_goes}
 use Rattle.abc_run_members.proofs.AtOnce.{text_got}
 use Rattle.abc_run_members.proofs.Told.{element_read, name_made, told_stays}
 use Rattle.abc_objects.specs.declared.name.Name.{Name}
 use Rattle.abc_frames.specs.Frame.{Frame, newest}
-use Rattle.abc_run_state.specs.Outer.{at_heap, setting, world}
-use Rattle.abc_run_state.specs.Settling.{settles}
-use Rattle.abc_run_state.specs.Turns.{turned}
+use Rattle.abc_run_state.specs.Outer.{at_heap, setting_in, world}
+use Rattle.abc_run_state.specs.Settling.{settles_how}
+use Rattle.abc_run_state.specs.Turns.{turn_of}
 use Rattle.abc_meaning.specs.World.{Outcome, and_then}
 use Rattle.abc_meaning.specs.Calling.{Came}
 use Rattle.abc_meaning.specs.Members.{reads}
@@ -37,12 +37,12 @@ pub text_of_number-requires : goal.text_of_number-requires
 text_of_number-requires g c = let few = c.requires.1.1.1.1.1.few in omega (arith, ints)
 
 pub settle-requires : goal.settle-requires
-settle-requires g c = subst (λ (r : Option NameForm). IsReady (parts_count r + 1) 1 c.args.s.now.frames) c.requires.1.1.0 c.requires.1.0
+settle-requires g c = subst (λ (r : Option NameForm). HasFrameRoom (name_parts_count r + 1) 1 c.args.s.now.frames) c.requires.1.1.0 c.requires.1.0
 
 pub returns-in-Ok : goal.returns-in-Ok
 returns-in-Ok g c =
     let l = c.args.linked.now in
-    let p = setting l g.out in
+    let p = setting_in l g.out in
     let q = c.args.s.now.frames in
     let f = newest q in
     let w = world c.args.s.now g.out in
@@ -54,9 +54,9 @@ returns-in-Ok g c =
     let made : IsTextMade h new c.in-Ok.field-0 (decimal c.args.k) = subst (λ (m : ℤ). IsTextMade h new c.in-Ok.field-0 (signed_decimal m)) (to_z-of_z w64 (pos c.args.k) fits) (subst (λ (m : ℤ). IsTextMade h new c.in-Ok.field-0 (signed_decimal (to_z w64 (of_z w64 m)))) c.from.ensures c.in-Ok.ensures.made) in
     let name : Name = record { spaces = c.args.spaces; text = c.in-Ok.field-0 } in
     let read = element_read p w new c.args.spaces c.args.o _ c.args.k c.in-Ok.field-0 c.element-v.result made c.requires.1.1.1.1.1 (c.text_of_number.ensures.over l c.requires.0.over) c.requires.1.1.1.1.0 c.element-v.ensures in
-    let act = settles (Push 2) in (
-      ap (turned p q) (text_got p c.args.name c.args.spaces (Num (pos c.args.k)) c.args.o f w c.requires.1.1.0 (sym told_now.number) c.requires.1.1.1.0)
-          ∙ next_turns p q q (named p (Some (NoText c.args.spaces)) (Num (pos c.args.k) ∷ [])) (λ (f : Frame). reads p (Obj c.args.o)) act w (at_heap new w) name _ (name_made p c.args.spaces c.args.k w new c.in-Ok.field-0 made) refl
+    let act = settles_how (Push 2) in (
+      ap (turn_of p q) (text_got p c.args.name c.args.spaces (Num (pos c.args.k)) c.args.o f w c.requires.1.1.0 (sym told_now.number) c.requires.1.1.1.0)
+          ∙ next_turns p q q (name_by_form p (Some (NoText c.args.spaces)) (Num (pos c.args.k) ∷ [])) (λ (f : Frame). reads p (Obj c.args.o)) act w (at_heap new w) name _ (name_made p c.args.spaces c.args.k w new c.in-Ok.field-0 made) refl
           (value_goes p q c.settle.new.frames (Push 2) c.element-v.result (and_then (reads p (Obj c.args.o) name (at_heap new w)) (act f)) (at_heap new w) (ap (λ (r : Outcome Came). and_then r (act f)) read) c.settle.ensures),
       refl,
     )

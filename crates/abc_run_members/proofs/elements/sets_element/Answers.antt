@@ -8,9 +8,9 @@ use mir.Val.{of_z, to_z}
 use Rattle.abc_heap_values.specs.declared.values.Value.TheVariants.{Num, Obj, Undefined}
 use Rattle.abc_heap_store.specs.Heap.{Heap, elements_of}
 use Rattle.abc_heap_store.specs.Texts.{IsTextMade}
-use Rattle.abc_meaning.specs.Names.{named}
-use Rattle.abc_frames.specs.Ready.{IsReady}
-use Rattle.abc_run_names.specs.Named.{parts_count}
+use Rattle.abc_meaning.specs.Names.{name_by_form}
+use Rattle.abc_frames.specs.Ready.{HasFrameRoom}
+use Rattle.abc_run_names.specs.Named.{name_parts_count}
 use Rattle.abc_run_members.proofs.Parts.{next_turns}
 use Rattle.abc_run_members.proofs.Settled.{value_runs}
 use Rattle.abc_run_members.proofs.Written.{element_kept}
@@ -18,9 +18,9 @@ use Rattle.abc_run_members.proofs.AtOnce.{text_put}
 use Rattle.abc_run_members.proofs.Told.{element_written, name_made, told_stays}
 use Rattle.abc_objects.specs.declared.name.Name.{Name}
 use Rattle.abc_frames.specs.Frame.{Frame, newest}
-use Rattle.abc_run_state.specs.Outer.{at_heap, setting, world}
-use Rattle.abc_run_state.specs.Settling.{settles}
-use Rattle.abc_run_state.specs.Turns.{turned}
+use Rattle.abc_run_state.specs.Outer.{at_heap, setting_in, world}
+use Rattle.abc_run_state.specs.Settling.{settles_how}
+use Rattle.abc_run_state.specs.Turns.{turn_of}
 use Rattle.abc_meaning.specs.Members.{write_element, writes_to}
 use Rattle.abc_meaning.specs.Setting.{NameForm, NoText}
 use Rattle.abc_run_state.specs.declared.state.How.TheVariants.{Drop}
@@ -39,12 +39,12 @@ pub text_of_number-requires : goal.text_of_number-requires
 text_of_number-requires g c = let few = c.requires.1.1.1.1.1.few in omega (arith, ints)
 
 pub settle-requires : goal.settle-requires
-settle-requires g c = subst (λ (r : Option NameForm). IsReady (parts_count r + 2) 0 c.args.s.now.frames) c.requires.1.1.0 c.requires.1.0
+settle-requires g c = subst (λ (r : Option NameForm). HasFrameRoom (name_parts_count r + 2) 0 c.args.s.now.frames) c.requires.1.1.0 c.requires.1.0
 
 pub returns-in-Ok : goal.returns-in-Ok
 returns-in-Ok g c =
     let l = c.args.linked.now in
-    let p = setting l g.out in
+    let p = setting_in l g.out in
     let q = c.args.s.now.frames in
     let f = newest q in
     let w = world c.args.s.now g.out in
@@ -62,8 +62,8 @@ returns-in-Ok g c =
     let count = length (elements_of new.objects o.0) in
     let taken = element_written p w new c.args.spaces o _ c.args.k c.in-Ok.field-0 x c.args.initial made c.requires.1.1.1.1.1 c.requires.1.1.1.1.0 in
     let kept = element_kept o count c.args.k x u c.set_element.new.self told.there c.set_element.ensures.heap in (
-      ap (turned p q) (text_put p c.args.name c.args.spaces (Num (pos c.args.k)) x o c.args.initial f w c.requires.1.1.0 (sym told_now.number) c.operand-x.ensures.is c.requires.1.1.1.0)
-          ∙ next_turns p q q (named p (Some (NoText c.args.spaces)) (Num (pos c.args.k) ∷ [])) (λ (f : Frame). (λ (m : Name). writes_to p (Obj o) m x c.args.initial)) (λ (f : Frame). settles (Drop 3) f) w u name _ (name_made p c.args.spaces c.args.k w new c.in-Ok.field-0 made) refl
+      ap (turn_of p q) (text_put p c.args.name c.args.spaces (Num (pos c.args.k)) x o c.args.initial f w c.requires.1.1.0 (sym told_now.number) c.operand-x.ensures.is c.requires.1.1.1.0)
+          ∙ next_turns p q q (name_by_form p (Some (NoText c.args.spaces)) (Num (pos c.args.k) ∷ [])) (λ (f : Frame). (λ (m : Name). writes_to p (Obj o) m x c.args.initial)) (λ (f : Frame). settles_how (Drop 3) f) w u name _ (name_made p c.args.spaces c.args.k w new c.in-Ok.field-0 made) refl
           (value_runs p (Drop 3) q q c.settle.new.frames (writes_to p (Obj o) name x c.args.initial) (write_element o count c.args.k x) (λ u. Undefined) u (at_heap c.set_element.new.self u) tt taken kept refl c.settle.ensures),
       refl,
     )

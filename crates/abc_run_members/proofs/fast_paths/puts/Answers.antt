@@ -6,14 +6,14 @@ use Rattle.abc_run_state.proofs.Made.{property_put}
 use Rattle.abc_run_members.proofs.Settled.{came_goes}
 use Rattle.abc_frames.specs.Frame.{newest}
 use Rattle.abc_run_state.specs.Operands.{operand_at}
-use Rattle.abc_run_state.specs.Outer.{at_heap, setting, world}
+use Rattle.abc_run_state.specs.Outer.{at_heap, setting_in, world}
 use Rattle.abc_meaning.specs.Objects.{set_property}
 use Rattle.abc_run_state.specs.declared.state.How.TheVariants.{Drop}
 use Rattle.abc_run_members.proofs.fast_paths.puts.Goals as goal
 
 pub returns-in-Ok : goal.returns-in-Ok
 returns-in-Ok g c =
-    let p = setting c.args.linked.now g.out in
+    let p = setting_in c.args.linked.now g.out in
     let q = c.args.s.now.frames in
     let w = world c.args.s.now g.out in
     let x = operand_at 0 (newest q) in (

@@ -8,7 +8,7 @@ use Rattle.abc_heap_store.specs.Texts.{IsText}
 use Rattle.abc_objects.specs.Values.{Exists}
 use Rattle.abc_run_members.specs.Members.{puts_top}
 use Rattle.abc_frames.specs.Frame.{newest}
-use Rattle.abc_run_state.specs.Outer.{setting}
+use Rattle.abc_run_state.specs.Outer.{setting_in}
 use Rattle.abc_run_state.specs.Turns.{IsDoneIf}
 use Rattle.abc_run_members.proofs.fast_paths.puts_at_once.Goals as goal
 
@@ -28,4 +28,4 @@ pub puts_value-requires : goal.puts_value-requires
 puts_value-requires g c = (c.requires.0, (c.requires.1.0, (c.requires.1.1.0, subst (λ (x : Span). IsText c.args.linked.now.file.strings c.args.s.now.arena x) (sym c.again.ensures) c.requires.1.1.1)))
 
 pub returns-in_default : goal.returns-in_default
-returns-in_default g c = subst (λ (x : Span). IsDoneIf c.puts_value.result c.args.linked.now g.out (puts_top (setting c.args.linked.now g.out) c.args.o x (newest c.args.s.now.frames)) c.args.s.now c.puts_value.new.s) c.again.ensures c.puts_value.ensures
+returns-in_default g c = subst (λ (x : Span). IsDoneIf c.puts_value.result c.args.linked.now g.out (puts_top (setting_in c.args.linked.now g.out) c.args.o x (newest c.args.s.now.frames)) c.args.s.now c.puts_value.new.s) c.again.ensures c.puts_value.ensures

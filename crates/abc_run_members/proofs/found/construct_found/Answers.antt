@@ -1,6 +1,6 @@
 use Rattle.std.proofs.Common.{rules, []}
 use Rattle.abc_frames.specs.Frame.{newest}
-use Rattle.abc_run_state.specs.Outer.{setting, world}
+use Rattle.abc_run_state.specs.Outer.{setting_in, world}
 use Rattle.abc_meaning.specs.Calling.{got}
 use Rattle.abc_meaning.specs.Members.{read_found}
 use Rattle.abc_meaning.specs.World.{◌>>=◌}
@@ -15,7 +15,7 @@ construct_getter-requires g c = (
     set = search rules;
     known = search rules;
     free =
-        let p = setting c.args.linked.now g.out in
+        let p = setting_in c.args.linked.now g.out in
         let f = newest c.args.s.now.frames in
         let w = world c.args.s.now g.out in
         came_open (constructs_of p c.args.under c.args.count f) (read_found p c.args.found c.args.v) (enters_on p c.in-Getter.method c.args.v []) w (getter_at p c.args.found c.in-Getter.method c.args.v w c.in-Getter.is) c.requires.0.free;
@@ -26,7 +26,7 @@ construct_getter-requires g c = (
 pub returns-in-Getter : goal.returns-in-Getter
 returns-in-Getter g c = record {
   runs =
-      let p = setting c.args.linked.now g.out in
+      let p = setting_in c.args.linked.now g.out in
       let q = c.args.s.now.frames in
       let w = world c.args.s.now g.out in
       came_same p q (constructs_of p c.args.under c.args.count (newest q)) (read_found p c.args.found c.args.v) (enters_on p c.in-Getter.method c.args.v []) w _ (getter_at p c.args.found c.in-Getter.method c.args.v w c.in-Getter.is) c.construct_getter.ensures.runs;
@@ -39,7 +39,7 @@ construct_value-requires g c = (
     set = search rules;
     known = search rules;
     free =
-        let p = setting c.args.linked.now g.out in
+        let p = setting_in c.args.linked.now g.out in
         let w = world c.args.s.now g.out in
         came_open (constructs_of p c.args.under c.args.count (newest c.args.s.now.frames)) (read_found p c.args.found c.args.v) (value_read p c.args.found c.args.v >>= λ x. got x) w (value_is_read p c.args.found c.args.v w (λ m e. c.in_default.not-Getter m e)) c.requires.0.free;
   },
@@ -49,7 +49,7 @@ construct_value-requires g c = (
 pub returns-in_default : goal.returns-in_default
 returns-in_default g c = record {
   runs =
-      let p = setting c.args.linked.now g.out in
+      let p = setting_in c.args.linked.now g.out in
       let q = c.args.s.now.frames in
       let w = world c.args.s.now g.out in
       came_same p q (constructs_of p c.args.under c.args.count (newest q)) (read_found p c.args.found c.args.v) (value_read p c.args.found c.args.v >>= λ x. got x) w _ (value_is_read p c.args.found c.args.v w (λ m e. c.in_default.not-Getter m e)) c.construct_value.ensures.runs;

@@ -1,7 +1,7 @@
 use Rattle.std.proofs.Common.{rules}
 use Rattle.std.proofs.lemmas.Result.{err_from_is_err_and}
 use Rattle.abc_frames.specs.Frame.{newest}
-use Rattle.abc_run_state.specs.Outer.{setting, world}
+use Rattle.abc_run_state.specs.Outer.{setting_in, world}
 use Rattle.abc_run_state.specs.Stops.{why}
 use Rattle.abc_meaning.specs.Members.{find_on, read_found, reads}
 use Rattle.abc_meaning.specs.World.{see, ◌>>=◌}
@@ -17,7 +17,7 @@ construct_found-requires g c = (
     set = search rules;
     known = search rules;
     free =
-        let p = setting c.args.linked.now g.out in
+        let p = setting_in c.args.linked.now g.out in
         let w = world c.args.s.now g.out in
         came_open (constructs_of p c.args.under c.args.count (newest c.args.s.now.frames)) (reads p c.args.v c.args.name.now) (read_found p c.find-found.result c.args.v) w (reads_as p c.args.v c.args.name.now c.find-found.result w (c.in_ok-is_holder.ensures w) c.find-found.ensures.is) c.requires.0.free;
   },
@@ -27,7 +27,7 @@ construct_found-requires g c = (
 pub returns : goal.returns
 returns g c = record {
   runs =
-      let p = setting c.args.linked.now g.out in
+      let p = setting_in c.args.linked.now g.out in
       let q = c.args.s.now.frames in
       let w = world c.args.s.now g.out in
       came_same p q (constructs_of p c.args.under c.args.count (newest q)) (reads p c.args.v c.args.name.now) (read_found p c.find-found.result c.args.v) w _ (reads_as p c.args.v c.args.name.now c.find-found.result w (c.in_ok-is_holder.ensures w) c.find-found.ensures.is) c.construct_found.ensures.runs;
@@ -37,7 +37,7 @@ returns g c = record {
 pub returns-in_err-is_holder : goal.returns-in_err-is_holder
 returns-in_err-is_holder g c = record {
   runs =
-      let p = setting c.args.linked.now g.out in
+      let p = setting_in c.args.linked.now g.out in
       let q = c.args.s.now.frames in
       let w = world c.args.s.now g.out in
       let e = err_from_is_err_and c.from_residual.result c.from_residual.ensures.1 in

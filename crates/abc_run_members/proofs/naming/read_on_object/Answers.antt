@@ -3,10 +3,10 @@ use Rattle.abc_heap_values.specs.declared.values.Value.TheVariants.{Obj}
 use Rattle.abc_heap_store.specs.Texts.{IsText}
 use Rattle.abc_objects.specs.declared.name.Name.{Name}
 use Rattle.abc_frames.specs.Frame.{newest}
-use Rattle.abc_run_state.specs.Outer.{setting, world}
-use Rattle.abc_run_state.specs.Settling.{settles}
+use Rattle.abc_run_state.specs.Outer.{setting_in, world}
+use Rattle.abc_run_state.specs.Settling.{settles_how}
 use Rattle.abc_run_state.specs.Stops.{IsOpen}
-use Rattle.abc_run_state.specs.Turns.{turned}
+use Rattle.abc_run_state.specs.Turns.{turn_of}
 use Rattle.abc_meaning.specs.Members.{read_found, reads}
 use Rattle.abc_run_members.specs.Members.{reads_on}
 use Rattle.abc_run_members.proofs.Cases.{reads_as}
@@ -20,9 +20,9 @@ read_found-requires g c = (
     set = search rules;
     known = search rules;
     free =
-        let p = setting c.args.linked.now g.out in
+        let p = setting_in c.args.linked.now g.out in
         let w = world c.args.s.now g.out in
-        came_open (settles c.args.how (newest c.args.s.now.frames)) (reads p (Obj c.args.o) c.args.name.now) (read_found p c.find_first_on-found.result (Obj c.args.o)) w
+        came_open (settles_how c.args.how (newest c.args.s.now.frames)) (reads p (Obj c.args.o) c.args.name.now) (read_found p c.find_first_on-found.result (Obj c.args.o)) w
         (reads_as p (Obj c.args.o) c.args.name.now c.find_first_on-found.result w refl (property_first p.linked w.heap c.args.o c.args.name.now c.find_first_on-found.result _ _ c.find_first_on-found.ensures.first c.in-Property.is))
         c.requires.0.free;
   },
@@ -32,10 +32,10 @@ read_found-requires g c = (
 pub returns-in-Property : goal.returns-in-Property
 returns-in-Property g c = record {
   runs =
-      let p = setting c.args.linked.now g.out in
+      let p = setting_in c.args.linked.now g.out in
       let q = c.args.s.now.frames in
       let w = world c.args.s.now g.out in
-      came_same p q (settles c.args.how (newest q)) (reads p (Obj c.args.o) c.args.name.now) (read_found p c.find_first_on-found.result (Obj c.args.o)) w _
+      came_same p q (settles_how c.args.how (newest q)) (reads p (Obj c.args.o) c.args.name.now) (read_found p c.find_first_on-found.result (Obj c.args.o)) w _
       (reads_as p (Obj c.args.o) c.args.name.now c.find_first_on-found.result w refl (property_first p.linked w.heap c.args.o c.args.name.now c.find_first_on-found.result _ _ c.find_first_on-found.ensures.first c.in-Property.is))
       c.read_found.ensures.runs;
   limit = search rules;
@@ -47,9 +47,9 @@ read_found-requires-in-Element g c = (
     set = search rules;
     known = search rules;
     free =
-        let p = setting c.args.linked.now g.out in
+        let p = setting_in c.args.linked.now g.out in
         let w = world c.args.s.now g.out in
-        came_open (settles c.args.how (newest c.args.s.now.frames)) (reads p (Obj c.args.o) c.args.name.now) (read_found p c.find_first_on-found.result (Obj c.args.o)) w
+        came_open (settles_how c.args.how (newest c.args.s.now.frames)) (reads p (Obj c.args.o) c.args.name.now) (read_found p c.find_first_on-found.result (Obj c.args.o)) w
         (reads_as p (Obj c.args.o) c.args.name.now c.find_first_on-found.result w refl (element_first p.linked w.heap c.args.o c.args.name.now c.find_first_on-found.result _ _ c.find_first_on-found.ensures.first c.in-Element.is))
         c.requires.0.free;
   },
@@ -59,10 +59,10 @@ read_found-requires-in-Element g c = (
 pub returns-in-Element : goal.returns-in-Element
 returns-in-Element g c = record {
   runs =
-      let p = setting c.args.linked.now g.out in
+      let p = setting_in c.args.linked.now g.out in
       let q = c.args.s.now.frames in
       let w = world c.args.s.now g.out in
-      came_same p q (settles c.args.how (newest q)) (reads p (Obj c.args.o) c.args.name.now) (read_found p c.find_first_on-found.result (Obj c.args.o)) w _
+      came_same p q (settles_how c.args.how (newest q)) (reads p (Obj c.args.o) c.args.name.now) (read_found p c.find_first_on-found.result (Obj c.args.o)) w _
       (reads_as p (Obj c.args.o) c.args.name.now c.find_first_on-found.result w refl (element_first p.linked w.heap c.args.o c.args.name.now c.find_first_on-found.result _ _ c.find_first_on-found.ensures.first c.in-Element.is))
       c.read_found-in-Element.ensures.runs;
   limit = search rules;
@@ -70,14 +70,14 @@ returns-in-Element g c = record {
 
 pub read_searching-requires : goal.read_searching-requires
 read_searching-requires g c =
-    let same = sym c.again.ensures in (record { set = c.requires.0.set; known = c.requires.0.known; free = (subst (λ (n : Name). IsOpen (reads_on (setting c.args.linked.now g.out) (Obj c.args.o) n c.args.how (newest c.args.s.now.frames) (world c.args.s.now g.out))) same c.requires.0.free) }, (c.requires.1.0, (c.requires.1.1.0, (subst (λ (n : Name). IsText c.args.linked.now.file.strings c.args.s.now.arena n.text) same c.requires.1.1.1))))
+    let same = sym c.again.ensures in (record { set = c.requires.0.set; known = c.requires.0.known; free = (subst (λ (n : Name). IsOpen (reads_on (setting_in c.args.linked.now g.out) (Obj c.args.o) n c.args.how (newest c.args.s.now.frames) (world c.args.s.now g.out))) same c.requires.0.free) }, (c.requires.1.0, (c.requires.1.1.0, (subst (λ (n : Name). IsText c.args.linked.now.file.strings c.args.s.now.arena n.text) same c.requires.1.1.1))))
 
 pub returns-in_default : goal.returns-in_default
 returns-in_default g c = record {
   runs =
-      let p = setting c.args.linked.now g.out in
+      let p = setting_in c.args.linked.now g.out in
       let q = c.args.s.now.frames in
       let w = world c.args.s.now g.out in
-      ap (λ (n : Name). turned p q (reads_on p (Obj c.args.o) n c.args.how (newest q) w)) (sym c.again.ensures) ∙ c.read_searching.ensures.runs;
+      ap (λ (n : Name). turn_of p q (reads_on p (Obj c.args.o) n c.args.how (newest q) w)) (sym c.again.ensures) ∙ c.read_searching.ensures.runs;
   limit = search rules;
 }

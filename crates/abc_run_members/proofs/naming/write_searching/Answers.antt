@@ -3,8 +3,8 @@ use Rattle.std.specs.Prelude.{ℕ, ◌<◌, length}
 use Rattle.abc_heap_store.specs.Heap.{object_at}
 use Rattle.abc_frames.specs.Frame.{newest}
 use Rattle.abc_heap_values.specs.declared.values.Value.TheVariants.{Obj}
-use Rattle.abc_run_state.specs.Outer.{setting, world}
-use Rattle.abc_run_state.specs.Settling.{settles}
+use Rattle.abc_run_state.specs.Outer.{setting_in, world}
+use Rattle.abc_run_state.specs.Settling.{settles_how}
 use Rattle.abc_meaning.specs.Members.{write_found, writes_to}
 use Rattle.abc_run_members.proofs.Cases.{writes_as}
 use Rattle.abc_run_members.proofs.Searched.{object_inside}
@@ -27,9 +27,9 @@ write_found-requires g c = (
     set = search rules;
     known = search rules;
     free =
-        let p = setting c.args.linked.now g.out in
+        let p = setting_in c.args.linked.now g.out in
         let w = world c.args.s.now g.out in
-        came_open (settles c.args.how (newest c.args.s.now.frames)) (writes_to p (Obj c.args.o) c.args.name.now c.args.x c.args.initial) (write_found p c.args.o c.args.name.now c.args.x c.args.initial c.find_declared-found.result) w
+        came_open (settles_how c.args.how (newest c.args.s.now.frames)) (writes_to p (Obj c.args.o) c.args.name.now c.args.x c.args.initial) (write_found p c.args.o c.args.name.now c.args.x c.args.initial c.find_declared-found.result) w
         (writes_as p c.args.o c.args.name.now c.args.x c.args.initial c.layout-layout.result.0 c.find_declared-found.result w c.requires.1.1.1.0 c.layout-layout.ensures c.find_declared-found.ensures) c.requires.0.free;
   },
   search rules,
@@ -38,10 +38,10 @@ write_found-requires g c = (
 pub returns : goal.returns
 returns g c = record {
   runs =
-      let p = setting c.args.linked.now g.out in
+      let p = setting_in c.args.linked.now g.out in
       let q = c.args.s.now.frames in
       let w = world c.args.s.now g.out in
-      came_same p q (settles c.args.how (newest q)) (writes_to p (Obj c.args.o) c.args.name.now c.args.x c.args.initial) (write_found p c.args.o c.args.name.now c.args.x c.args.initial c.find_declared-found.result) w _
+      came_same p q (settles_how c.args.how (newest q)) (writes_to p (Obj c.args.o) c.args.name.now c.args.x c.args.initial) (write_found p c.args.o c.args.name.now c.args.x c.args.initial c.find_declared-found.result) w _
       (writes_as p c.args.o c.args.name.now c.args.x c.args.initial c.layout-layout.result.0 c.find_declared-found.result w c.requires.1.1.1.0 c.layout-layout.ensures c.find_declared-found.ensures) c.write_found.ensures.runs;
   limit = search rules;
 }

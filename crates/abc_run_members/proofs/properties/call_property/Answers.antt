@@ -1,20 +1,20 @@
 use Rattle.std.proofs.Common.{rules, ℕ, ◌+◌, ◌∙◌, ap}
 use Rattle.abc_run_members.proofs.Calls.{called_so, takes_so, whole_taken}
 use Rattle.abc_run_members.specs.AtOnce.{how_for}
-use Rattle.abc_run_state.specs.Outer.{setting}
+use Rattle.abc_run_state.specs.Outer.{setting_in}
 use Rattle.abc_run_members.proofs.properties.call_property.Goals as goal
 
 pub call_whole-requires : goal.call_whole-requires
 call_whole-requires g c =
     let l = c.args.linked.now in
-    let e = whole_taken (setting l g.out) c.args.name c.args.count c.in-Some.wanted c.args.drops c.how_of-how.result c.in-Some.ensures.form c.how_of-how.ensures in
+    let e = whole_taken (setting_in l g.out) c.args.name c.args.count c.in-Some.wanted c.args.drops c.how_of-how.result c.in-Some.ensures.form c.how_of-how.ensures in
     let t = takes_so l g.out c.args.s.now c.args.name c.args.count c.args.lexical c.args.drops c.how_of-how.result e c.requires.1.0 c.requires.0.free in (record { set = c.requires.0.set; known = c.requires.0.known; free = t.free }, (t.ready, (c.requires.1.1.0, (t.taken, (c.in-Some.ensures.form, (c.in-Some.ensures.text c.args.s.now.arena, c.requires.1.1.1))))))
 
 pub returns-in-Some : goal.returns-in-Some
 returns-in-Some g c = record {
   leaves =
       let l = c.args.linked.now in
-      let e = whole_taken (setting l g.out) c.args.name c.args.count c.in-Some.wanted c.args.drops c.how_of-how.result c.in-Some.ensures.form c.how_of-how.ensures in
+      let e = whole_taken (setting_in l g.out) c.args.name c.args.count c.in-Some.wanted c.args.drops c.how_of-how.result c.in-Some.ensures.form c.how_of-how.ensures in
       called_so l g.out c.args.s.now c.call_whole.new.s c.args.name c.args.count c.args.lexical c.how_of-how.result _ c.call_whole.new.left e c.call_whole.ensures.leaves;
   finishes = search rules;
   goes = search rules;

@@ -4,12 +4,12 @@ use Rattle.abc_heap_values.specs.declared.values.Value.{Value}
 use Rattle.abc_heap_values.specs.declared.values.Value.TheVariants.{Num}
 use Rattle.abc_heap_store.specs.Heap.{Object}
 use Rattle.abc_run_state.specs.Outer.{world}
-use Rattle.abc_meaning.specs.World.{Went, done}
+use Rattle.abc_meaning.specs.World.{Went, pure}
 use Rattle.abc_run_members.proofs.Places.{length_is, object_inner}
 use Rattle.abc_run_members.proofs.values.length_of.Goals as goal
 
 pub length-count-requires : goal.length-count-requires
-length-count-requires g c = object_inner c.args.holder (λ (ob : Object). done (Num (pos (length ob.elements)))) (world c.args.s.now g.out) c.requires.1
+length-count-requires g c = object_inner c.args.holder (λ (ob : Object). pure (Num (pos (length ob.elements)))) (world c.args.s.now g.out) c.requires.1
 
 pub returns-clause-part : goal.returns-clause-part
 returns-clause-part g c =

@@ -1,7 +1,7 @@
 use Rattle.std.proofs.Common.{◌∙◌, ℕ, ◌<◌, ap, length, subst, sym}
 use Rattle.abc_link_names.specs.Numbering.{part_at}
 use Rattle.abc_run_state.proofs.Things.{layout_there}
-use Rattle.abc_run_state.specs.Outer.{setting, world}
+use Rattle.abc_run_state.specs.Outer.{setting_in, world}
 use Rattle.abc_meaning.specs.Setting.{is_dynamic_part}
 use Rattle.abc_run_names.proofs.Removed.{dynamic_is}
 use Rattle.abc_run_names.proofs.deleting.is_dynamic_object.Goals as goal
@@ -13,6 +13,6 @@ part_of-requires c =
 
 pub returns : goal.returns
 returns c = λ out.
-    let p = setting c.args.linked.now out in
+    let p = setting_in c.args.linked.now out in
     dynamic_is p c.args.o (world c.args.s.now out) c.is_dynamic_part.result c.requires.object
     (c.is_dynamic_part.ensures out ∙ ap (is_dynamic_part p) (c.part_of.ensures ∙ ap (part_at p.linked.parts) c.layout.ensures))

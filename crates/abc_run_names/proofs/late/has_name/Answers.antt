@@ -1,12 +1,12 @@
 use Rattle.std.proofs.Common.{rules, subst, sym}
 use Rattle.std.proofs.lemmas.Result.{err_from_is_err_and}
 use Rattle.abc_heap_values.specs.declared.values.Value.TheVariants.{Bool as Truth}
-use Rattle.abc_frames.specs.Ready.{IsReady}
+use Rattle.abc_frames.specs.Ready.{HasFrameRoom}
 use Rattle.abc_objects.proofs.Grown.{exists_grown}
 use Rattle.abc_frames.specs.Frame.{newest}
 use Rattle.abc_run_state.proofs.Pushing.{pushes_on, pushes_stopped}
 use Rattle.abc_run_state.specs.Operands.{operand_at}
-use Rattle.abc_run_state.specs.Outer.{setting, world}
+use Rattle.abc_run_state.specs.Outer.{setting_in, world}
 use Rattle.abc_run_state.specs.Stops.{why}
 use Rattle.abc_run_names.specs.Late.{name_is_in}
 use Rattle.abc_run_names.proofs.Typed.{in_found, in_refused, in_stops}
@@ -21,12 +21,12 @@ find_public-found-requires-clause-object g c =
     exists_grown l c.args.s.now.arena c.spell.new.s.arena c.operand-object.result c.in_ok-text.ensures.stays.grows (c.operand-object.ensures.there l c.args.s.now.arena c.requires.0.frame.stack)
 
 pub finish-requires : goal.finish-requires
-finish-requires g c = subst (IsReady 2 1) (sym c.in_ok-text.ensures.stays.frames) c.requires.1
+finish-requires g c = subst (HasFrameRoom 2 1) (sym c.in_ok-text.ensures.stays.frames) c.requires.1
 
 pub returns : goal.returns
 returns g c = record {
   runs =
-      let p = setting c.args.linked.now g.out in
+      let p = setting_in c.args.linked.now g.out in
       let q = c.args.s.now.frames in
       let f = newest q in
       let w = world c.args.s.now g.out in
@@ -40,7 +40,7 @@ returns g c = record {
 pub returns-in_err-text : goal.returns-in_err-text
 returns-in_err-text g c = record {
   runs =
-      let p = setting c.args.linked.now g.out in
+      let p = setting_in c.args.linked.now g.out in
       let q = c.args.s.now.frames in
       let f = newest q in
       let w = world c.args.s.now g.out in
@@ -54,7 +54,7 @@ returns-in_err-text g c = record {
 pub returns-in_err-is_holder : goal.returns-in_err-is_holder
 returns-in_err-is_holder g c = record {
   runs =
-      let p = setting c.args.linked.now g.out in
+      let p = setting_in c.args.linked.now g.out in
       let q = c.args.s.now.frames in
       let f = newest q in
       let w = world c.args.s.now g.out in

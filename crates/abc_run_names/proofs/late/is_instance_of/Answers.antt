@@ -7,14 +7,14 @@ use Rattle.abc_frames.specs.Frame.{newest}
 use Rattle.abc_meaning.specs.Late.{is_instance, late_type}
 use Rattle.abc_run_state.proofs.Pushing.{pushes_on, pushes_stopped}
 use Rattle.abc_run_state.specs.Operands.{operand_at}
-use Rattle.abc_run_state.specs.Outer.{setting, world}
+use Rattle.abc_run_state.specs.Outer.{setting_in, world}
 use Rattle.abc_run_state.specs.Stops.{why}
-use Rattle.abc_meaning.specs.World.{Run, done, see, ◌>>=◌}
+use Rattle.abc_meaning.specs.World.{Run, pure, see, ◌>>=◌}
 use Rattle.abc_run_names.proofs.Typed.{late_instance, late_stops}
 use Rattle.abc_run_names.proofs.late.is_instance_of.Goals as goal
 
 abbrev tests : Value → Value → Ty → Run Value
-tests v c t = see (is_instance v c) >>= λ b. done (Truth b)
+tests v c t = see (is_instance v c) >>= λ b. pure (Truth b)
 
 pub late_type-requires : goal.late_type-requires
 late_type-requires c = c.operand-class.ensures.there c.args.linked.now c.args.s.now.arena c.requires.set.frame.stack
@@ -27,7 +27,7 @@ is_instance-is-requires-clause-class c = c.operand-class.ensures.there c.args.li
 
 pub returns-clause-runs : goal.returns-clause-runs
 returns-clause-runs c = λ out.
-    let p = setting c.args.linked.now out in
+    let p = setting_in c.args.linked.now out in
     let q = c.args.s.now.frames in
     let f = newest q in
     let w = world c.args.s.now out in
@@ -36,7 +36,7 @@ returns-clause-runs c = λ out.
 
 pub returns-in_err-late_type-clause-runs : goal.returns-in_err-late_type-clause-runs
 returns-in_err-late_type-clause-runs c = λ out.
-    let p = setting c.args.linked.now out in
+    let p = setting_in c.args.linked.now out in
     let q = c.args.s.now.frames in
     let f = newest q in
     let w = world c.args.s.now out in

@@ -5,7 +5,7 @@ use Rattle.abc_frames.specs.Frame.{newest}
 use Rattle.abc_meaning.specs.Late.{tested_as, late_type}
 use Rattle.abc_run_state.proofs.Pushing.{pushes_on, pushes_stopped}
 use Rattle.abc_run_state.specs.Operands.{operand_at}
-use Rattle.abc_run_state.specs.Outer.{setting, world}
+use Rattle.abc_run_state.specs.Outer.{setting_in, world}
 use Rattle.abc_run_state.specs.Stops.{why}
 use Rattle.abc_meaning.specs.World.{◌>>=◌}
 use Rattle.abc_run_names.proofs.Typed.{late_tested, late_stops}
@@ -19,7 +19,7 @@ is_it-is-requires-clause-value c = c.operand-v.ensures.there c.args.linked.now c
 
 pub returns-clause-runs : goal.returns-clause-runs
 returns-clause-runs c = λ out.
-    let p = setting c.args.linked.now out in
+    let p = setting_in c.args.linked.now out in
     let q = c.args.s.now.frames in
     let f = newest q in
     let w = world c.args.s.now out in
@@ -28,7 +28,7 @@ returns-clause-runs c = λ out.
 
 pub returns-in_err-ty-clause-runs : goal.returns-in_err-ty-clause-runs
 returns-in_err-ty-clause-runs c = λ out.
-    let p = setting c.args.linked.now out in
+    let p = setting_in c.args.linked.now out in
     let q = c.args.s.now.frames in
     let f = newest q in
     let w = world c.args.s.now out in

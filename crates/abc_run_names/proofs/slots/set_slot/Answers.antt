@@ -3,12 +3,12 @@ use Rattle.std.proofs.lemmas.Result.{err_from_is_err_and}
 use Rattle.abc_heap_values.specs.declared.values.ObjId.{ObjId}
 use Rattle.abc_heap_values.specs.declared.values.Value.{Value}
 use Rattle.abc_heap_store.specs.Heap.{Object}
-use Rattle.abc_frames.specs.Ready.{IsReady}
+use Rattle.abc_frames.specs.Ready.{HasFrameRoom}
 use Rattle.abc_objects.specs.Values.{Exists}
-use Rattle.abc_frames.specs.Frame.{Frame, dropped, newest}
-use Rattle.abc_meaning.specs.At.{goes, next}
+use Rattle.abc_frames.specs.Frame.{Frame, after_drop, newest}
+use Rattle.abc_meaning.specs.At.{goes, next_frame}
 use Rattle.abc_run_state.specs.Operands.{operand_at}
-use Rattle.abc_run_state.specs.Outer.{setting, world}
+use Rattle.abc_run_state.specs.Outer.{setting_in, world}
 use Rattle.abc_run_state.specs.Stops.{IsOpen, why}
 use Rattle.abc_run_state.proofs.Turning.{open_first}
 use Rattle.abc_meaning.specs.Members.{write_slot}
@@ -22,11 +22,11 @@ abbrev writes : Setting → Frame → ObjId → Object → ℕ → Run (Unit {0}
 writes p f o ob k = write_slot p o k (operand_at 0 f)
 
 open_writes : (p : Setting) (n : ℕ) (f : Frame) (w : World) → IsOpen (writes_numbered p n f w) → IsOpen (on_numbered p n (operand_at 1 f) (writes p f) w)
-open_writes p n f w h = open_first (on_numbered p n (operand_at 1 f) (writes p f) w) (λ u. goes (next (dropped 2 f))) h
+open_writes p n f w h = open_first (on_numbered p n (operand_at 1 f) (writes p f) w) (λ u. goes (next_frame (after_drop 2 f))) h
 
 pub receiver-requires : goal.receiver-requires
 receiver-requires g c =
-    let p = setting c.args.linked.now g.out in
+    let p = setting_in c.args.linked.now g.out in
     let f = newest c.args.s.now.frames in
     let w = world c.args.s.now g.out in
     open_receiver p c.args.number (writes p f) c.operand-v.result (operand_at 1 f) w c.operand-v.ensures.is (open_writes p c.args.number f w c.requires.1.1)
@@ -40,7 +40,7 @@ place_of-k-requires-clause-object g c =
 pub place_of-k-requires-clause-slot : goal.place_of-k-requires-clause-slot
 place_of-k-requires-clause-slot g c =
     let l = c.args.linked.now in
-    let p = setting l g.out in
+    let p = setting_in l g.out in
     let f = newest c.args.s.now.frames in
     let h = c.args.s.now.arena in
     let w = world c.args.s.now g.out in
@@ -52,7 +52,7 @@ write_slot-requires g c = (
   c.requires.0.over,
   (
     (let l = c.args.linked.now in
-        let p = setting l g.out in
+        let p = setting_in l g.out in
         let f = newest c.args.s.now.frames in
         let h = c.args.s.now.arena in
         let w = world c.args.s.now g.out in
@@ -64,13 +64,13 @@ write_slot-requires g c = (
 )
 
 pub drop_and_go-requires : goal.drop_and_go-requires
-drop_and_go-requires g c = subst (IsReady 2 0) (sym c.in_ok-write_slot.ensures.stays.frames) c.requires.1.0
+drop_and_go-requires g c = subst (HasFrameRoom 2 0) (sym c.in_ok-write_slot.ensures.stays.frames) c.requires.1.0
 
 pub returns : goal.returns
 returns g c = record {
   runs =
       let l = c.args.linked.now in
-      let p = setting l g.out in
+      let p = setting_in l g.out in
       let q = c.args.s.now.frames in
       let f = newest q in
       let h = c.args.s.now.arena in
@@ -85,7 +85,7 @@ returns g c = record {
 pub returns-in_err-o : goal.returns-in_err-o
 returns-in_err-o g c = record {
   runs =
-      let p = setting c.args.linked.now g.out in
+      let p = setting_in c.args.linked.now g.out in
       let q = c.args.s.now.frames in
       let f = newest q in
       let w = world c.args.s.now g.out in
@@ -99,7 +99,7 @@ pub returns-in_err-write_slot : goal.returns-in_err-write_slot
 returns-in_err-write_slot g c = record {
   runs =
       let l = c.args.linked.now in
-      let p = setting l g.out in
+      let p = setting_in l g.out in
       let q = c.args.s.now.frames in
       let f = newest q in
       let h = c.args.s.now.arena in

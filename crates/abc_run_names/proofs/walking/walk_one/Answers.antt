@@ -4,7 +4,7 @@ use Rattle.abc_frames.specs.Frame.{newest}
 use Rattle.abc_meaning.specs.Walking.{has_next}
 use Rattle.abc_run_state.proofs.Pushing.{pushes_on}
 use Rattle.abc_run_state.specs.Operands.{operand_at}
-use Rattle.abc_run_state.specs.Outer.{world, setting}
+use Rattle.abc_run_state.specs.Outer.{world, setting_in}
 use Rattle.abc_meaning.specs.World.{Went, see}
 use Rattle.abc_run_names.proofs.Walks.{can_walk, next_is}
 use Rattle.abc_run_names.proofs.walking.walk_one.Goals as goal
@@ -17,6 +17,6 @@ returns-clause-runs c = λ out.
     let q = c.args.s.now.frames in
     let f = newest q in
     let w = world c.args.s.now out in
-    pushes_on (setting c.args.linked.now out) q q c.finish.new.frames 2 (see (has_next (operand_at 1 f) (operand_at 0 f))) w w c.has_next-v.result
+    pushes_on (setting_in c.args.linked.now out) q q c.finish.new.frames 2 (see (has_next (operand_at 1 f) (operand_at 0 f))) w w c.has_next-v.result
     (ap (λ (x : Value). Went w (has_next x (operand_at 0 f) w)) (sym c.operand-object.ensures.is) ∙ ap (λ (x : Value). Went w (has_next c.operand-object.result x w)) (sym c.operand-after.ensures.is)
     ∙ ap (Went w) (next_is c.operand-object.result c.operand-after.result w ∙ sym c.has_next-v.ensures)) refl c.finish.ensures

@@ -3,13 +3,13 @@ use Rattle.abc_heap_values.specs.declared.values.Value.TheVariants.{Obj}
 use Rattle.abc_meaning.specs.Objects.{new_array}
 use Rattle.abc_frames.specs.Frame.{arguments, newest}
 use Rattle.abc_meaning.specs.Newing.{object_value}
-use Rattle.abc_run_state.specs.Outer.{setting, world}
+use Rattle.abc_run_state.specs.Outer.{setting_in, world}
 use Rattle.abc_run_state.proofs.Pushing.{object_stopped, object_went, pushes_on, pushes_stopped}
 use Rattle.abc_run_state.proofs.arms.new_array.Goals as goal
 
 pub returns-clause-runs : goal.returns-clause-runs
 returns-clause-runs c = λ out.
-    let p = setting c.args.linked.now out in
+    let p = setting_in c.args.linked.now out in
     let q = c.args.s.now.frames in
     let w = world c.args.s.now out in
     let new = world c.make_array.new.s out in
@@ -19,7 +19,7 @@ returns-clause-runs c = λ out.
 
 pub returns-in_err-made-clause-runs : goal.returns-in_err-made-clause-runs
 returns-in_err-made-clause-runs c = λ out.
-    let p = setting c.args.linked.now out in
+    let p = setting_in c.args.linked.now out in
     let q = c.args.s.now.frames in
     let w = world c.args.s.now out in
     let new = world c.make_array.new.s out in

@@ -1,12 +1,12 @@
 use Rattle.std.proofs.Common.{◌∙◌, refl, ap, sym}
 use Rattle.abc_heap_store.specs.Heap.{Heap}
-use Rattle.abc_run_state.specs.Outer.{setting, world}
+use Rattle.abc_run_state.specs.Outer.{setting_in, world}
 use Rattle.abc_meaning.specs.Objects.{new_array}
 use Rattle.abc_run_state.proofs.Made.{array_full, array_grows, array_made, array_there, same_grows}
 use Rattle.abc_run_state.proofs.making.make_array.Goals as goal
 
 pub returns-in-Ok-clause-part : goal.returns-in-Ok-clause-part
-returns-in-Ok-clause-part c = λ out. ap (λ vs. new_array (setting c.args.linked.now out) vs (world c.args.s.now out)) (sym c.arguments.ensures) ∙ array_made (setting c.args.linked.now out) (world c.args.s.now out) c.arguments.result.now c.new_array.new.self c.in-Ok.made c.in-Ok.ensures.made
+returns-in-Ok-clause-part c = λ out. ap (λ vs. new_array (setting_in c.args.linked.now out) vs (world c.args.s.now out)) (sym c.arguments.ensures) ∙ array_made (setting_in c.args.linked.now out) (world c.args.s.now out) c.arguments.result.now c.new_array.new.self c.in-Ok.made c.in-Ok.ensures.made
 
 pub returns-in-Ok-clause-stays : goal.returns-in-Ok-clause-stays
 returns-in-Ok-clause-stays c = record {
@@ -22,7 +22,7 @@ pub returns-in-Ok-clause-there : goal.returns-in-Ok-clause-there
 returns-in-Ok-clause-there c = array_there _ _ _ _ _ _ c.in-Ok.ensures.made
 
 pub returns-in-Err-clause-part : goal.returns-in-Err-clause-part
-returns-in-Err-clause-part c = λ out. ap (λ vs. new_array (setting c.args.linked.now out) vs (world c.args.s.now out)) (sym c.arguments.ensures) ∙ array_full (setting c.args.linked.now out) (world c.args.s.now out) c.arguments.result.now c.new_array.new.self c.in-Err.full c.in-Err.ensures.made
+returns-in-Err-clause-part c = λ out. ap (λ vs. new_array (setting_in c.args.linked.now out) vs (world c.args.s.now out)) (sym c.arguments.ensures) ∙ array_full (setting_in c.args.linked.now out) (world c.args.s.now out) c.arguments.result.now c.new_array.new.self c.in-Err.full c.in-Err.ensures.made
 
 pub returns-in-Err-clause-stays : goal.returns-in-Err-clause-stays
 returns-in-Err-clause-stays c = record {

@@ -1,12 +1,12 @@
 use Rattle.std.proofs.Common.{refl, ap}
 use Rattle.abc_frames.specs.Frame.{newest}
 use Rattle.abc_heap_store.specs.Heap.{Heap}
-use Rattle.abc_run_state.specs.Outer.{setting, world}
+use Rattle.abc_run_state.specs.Outer.{setting_in, world}
 use Rattle.abc_run_state.proofs.Made.{class_full_by, class_grows, class_made_by, class_there, same_grows}
 use Rattle.abc_run_state.proofs.making.make_class.Goals as goal
 
 pub returns-in-Ok-clause-part : goal.returns-in-Ok-clause-part
-returns-in-Ok-clause-part c = λ out. class_made_by (setting c.args.linked.now out) (world c.args.s.now out) c.args.class c.home-home.result (newest c.args.s.now.frames).home c.args.base_prototype c.prototype_for-delegate.result c.saved-saved.result (newest c.args.s.now.frames).saved c.scopes.result.now (newest c.args.s.now.frames).scopes c.new_class.new.self c.in-Ok.made c.prototype_for-delegate.ensures.is c.home-home.ensures c.saved-saved.ensures c.scopes.ensures c.in-Ok.ensures.made
+returns-in-Ok-clause-part c = λ out. class_made_by (setting_in c.args.linked.now out) (world c.args.s.now out) c.args.class c.home-home.result (newest c.args.s.now.frames).home c.args.base_prototype c.prototype_for-delegate.result c.saved-saved.result (newest c.args.s.now.frames).saved c.scopes.result.now (newest c.args.s.now.frames).scopes c.new_class.new.self c.in-Ok.made c.prototype_for-delegate.ensures.is c.home-home.ensures c.saved-saved.ensures c.scopes.ensures c.in-Ok.ensures.made
 
 pub returns-in-Ok-clause-stays : goal.returns-in-Ok-clause-stays
 returns-in-Ok-clause-stays c = record {
@@ -22,7 +22,7 @@ pub returns-in-Ok-clause-there : goal.returns-in-Ok-clause-there
 returns-in-Ok-clause-there c = class_there _ _ _ _ _ _ _ _ c.in-Ok.ensures.made
 
 pub returns-in-Err-clause-part : goal.returns-in-Err-clause-part
-returns-in-Err-clause-part c = λ out. class_full_by (setting c.args.linked.now out) (world c.args.s.now out) c.args.class c.home-home.result (newest c.args.s.now.frames).home c.args.base_prototype c.saved-saved.result (newest c.args.s.now.frames).saved c.scopes.result.now (newest c.args.s.now.frames).scopes c.new_class.new.self c.in-Err.full c.home-home.ensures c.saved-saved.ensures c.scopes.ensures c.in-Err.ensures.made
+returns-in-Err-clause-part c = λ out. class_full_by (setting_in c.args.linked.now out) (world c.args.s.now out) c.args.class c.home-home.result (newest c.args.s.now.frames).home c.args.base_prototype c.saved-saved.result (newest c.args.s.now.frames).saved c.scopes.result.now (newest c.args.s.now.frames).scopes c.new_class.new.self c.in-Err.full c.home-home.ensures c.saved-saved.ensures c.scopes.ensures c.in-Err.ensures.made
 
 pub returns-in-Err-clause-stays : goal.returns-in-Err-clause-stays
 returns-in-Err-clause-stays c = record {

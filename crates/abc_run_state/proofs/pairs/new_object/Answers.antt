@@ -3,10 +3,10 @@ use Rattle.std.proofs.lemmas.Result.{err_from_is_err_and}
 use Rattle.abc_heap_values.specs.declared.values.Value.TheVariants.{Obj}
 use Rattle.abc_frames.specs.Frame.{Frames, arguments, newest}
 use Rattle.abc_meaning.specs.Newing.{set_all}
-use Rattle.abc_run_state.specs.Outer.{setting, world}
+use Rattle.abc_run_state.specs.Outer.{setting_in, world}
 use Rattle.abc_run_state.specs.Stops.{why}
-use Rattle.abc_run_state.specs.Makers.{makes_object}
-use Rattle.abc_run_state.specs.Pairs.{entries_at}
+use Rattle.abc_run_state.specs.Makers.{make_object}
+use Rattle.abc_run_state.specs.Pairs.{pairs_at}
 use Rattle.abc_run_state.proofs.Keeping.{ready_with, set_stays}
 use Rattle.abc_run_state.proofs.Paired.{making_stops, names_stop, object_is_made, putting_stops, spelled_drop}
 use Rattle.abc_run_state.proofs.Pushing.{pushes_over, pushes_stopped_over}
@@ -29,19 +29,19 @@ finish-requires g c = ready_with c.args.s.now.frames c.put_all.new.s.frames (2 *
 pub returns : goal.returns
 returns g c = record {
   runs =
-      let p = setting c.args.linked.now g.out in
+      let p = setting_in c.args.linked.now g.out in
       let q = c.args.s.now.frames in
       let w = world c.args.s.now g.out in
       let a = world c.spell_names.new.s g.out in
       let n = c.args.pairs in
       let vs = (newest q).stack in
       let ws = (newest c.spell_names.new.s.frames).stack in
-      let m = makes_object p (arguments (2 * n) (newest q)) in
+      let m = make_object p (arguments (2 * n) (newest q)) in
       let made = c.in_ok-made.made in
       let same = ap (λ (r : Frames). (newest r).stack) c.in_ok-made.ensures.stays.frames in
       pushes_over p q c.put_all.new.s.frames c.finish.new.frames (2 * n) ws m w (world c.put_all.new.s g.out) (Obj made)
       (object_is_made p n vs ws w a (world c.make_of_host.new.s g.out) (world c.put_all.new.s g.out) made c.requires.1.0.operands c.in_ok-spell_names.ensures.part (c.in_ok-made.ensures.part g.out)
-      (ap (λ xs. set_all p made (entries_at n xs) (world c.make_of_host.new.s g.out)) (sym same) ∙ c.in_ok-put_all.ensures.part g.out))
+      (ap (λ xs. set_all p made (pairs_at n xs) (world c.make_of_host.new.s g.out)) (sym same) ∙ c.in_ok-put_all.ensures.part g.out))
       (spelled_drop p n vs ws w a c.in_ok-spell_names.ensures.part)
       (c.in_ok-put_all.ensures.stays.frames ∙ c.in_ok-made.ensures.stays.frames ∙ c.in_ok-spell_names.ensures.frames) c.finish.ensures;
   limit = search rules;
@@ -50,11 +50,11 @@ returns g c = record {
 pub returns-in_err-spell_names : goal.returns-in_err-spell_names
 returns-in_err-spell_names g c = record {
   runs =
-      let p = setting c.args.linked.now g.out in
+      let p = setting_in c.args.linked.now g.out in
       let q = c.args.s.now.frames in
       let w = world c.args.s.now g.out in
       let n = c.args.pairs in
-      let m = makes_object p (arguments (2 * n) (newest q)) in
+      let m = make_object p (arguments (2 * n) (newest q)) in
       let s = c.in_err-spell_names.field-0.0 in
       let new = world c.spell_names.new.s g.out in
       let e = err_from_is_err_and c.from_residual.result c.from_residual.ensures.1 in
@@ -65,13 +65,13 @@ returns-in_err-spell_names g c = record {
 pub returns-in_err-made : goal.returns-in_err-made
 returns-in_err-made g c = record {
   runs =
-      let p = setting c.args.linked.now g.out in
+      let p = setting_in c.args.linked.now g.out in
       let q = c.args.s.now.frames in
       let w = world c.args.s.now g.out in
       let a = world c.spell_names.new.s g.out in
       let n = c.args.pairs in
       let ws = (newest c.spell_names.new.s.frames).stack in
-      let m = makes_object p (arguments (2 * n) (newest q)) in
+      let m = make_object p (arguments (2 * n) (newest q)) in
       let s = c.in_err-made.field-0.0 in
       let new = world c.make_of_host.new.s g.out in
       let e = err_from_is_err_and c.from_residual-in_err-made.result c.from_residual-in_err-made.ensures.1 in
@@ -84,13 +84,13 @@ returns-in_err-made g c = record {
 pub returns-in_err-put_all : goal.returns-in_err-put_all
 returns-in_err-put_all g c = record {
   runs =
-      let p = setting c.args.linked.now g.out in
+      let p = setting_in c.args.linked.now g.out in
       let q = c.args.s.now.frames in
       let w = world c.args.s.now g.out in
       let a = world c.spell_names.new.s g.out in
       let n = c.args.pairs in
       let ws = (newest c.spell_names.new.s.frames).stack in
-      let m = makes_object p (arguments (2 * n) (newest q)) in
+      let m = make_object p (arguments (2 * n) (newest q)) in
       let s = c.in_err-put_all.field-0.0 in
       let new = world c.put_all.new.s g.out in
       let made = c.in_ok-made.made in
@@ -98,7 +98,7 @@ returns-in_err-put_all g c = record {
       let e = err_from_is_err_and c.from_residual-in_err-put_all.result c.from_residual-in_err-put_all.ensures.1 in
       rw (e.1, e.2) (pushes_stopped_over p q c.put_all.new.s.frames (2 * n) ws m w new s
       (putting_stops p n (newest q).stack ws w a (world c.make_of_host.new.s g.out) new made (why s) c.requires.1.0.operands c.in_ok-spell_names.ensures.part (c.in_ok-made.ensures.part g.out)
-      (ap (λ xs. set_all p made (entries_at n xs) (world c.make_of_host.new.s g.out)) (sym same) ∙ c.in_err-put_all.ensures.part g.out))
+      (ap (λ xs. set_all p made (pairs_at n xs) (world c.make_of_host.new.s g.out)) (sym same) ∙ c.in_err-put_all.ensures.part g.out))
       (c.in_err-put_all.ensures.stays.frames ∙ c.in_ok-made.ensures.stays.frames ∙ c.in_ok-spell_names.ensures.frames));
   limit = search rules;
 }

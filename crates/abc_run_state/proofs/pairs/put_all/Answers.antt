@@ -4,9 +4,9 @@ use Rattle.abc_heap_values.specs.declared.values.Span.{Span}
 use Rattle.abc_heap_store.specs.Texts.{IsText}
 use Rattle.abc_frames.specs.Frame.{Frames, newest}
 use Rattle.abc_meaning.specs.Newing.{set_all}
-use Rattle.abc_run_state.specs.Outer.{setting, world}
+use Rattle.abc_run_state.specs.Outer.{setting_in, world}
 use Rattle.abc_run_state.specs.Stops.{why}
-use Rattle.abc_run_state.specs.Pairs.{entries_at}
+use Rattle.abc_run_state.specs.Pairs.{pairs_at}
 use Rattle.abc_run_state.proofs.Keeping.{set_stays, stays_on, stays_self}
 use Rattle.abc_run_state.proofs.Paired.{put_is, put_step, put_stops, text_there}
 use Rattle.abc_run_state.proofs.pairs.put_all.Goals as goal
@@ -54,15 +54,15 @@ loop-left-preserved c =
       stays = stays_on l c.args.s.now old c.put_property.new.s c.loop-left.invariant.stays stays;
       part = λ out.
           c.loop-left.invariant.part out
-          ∙ put_step (setting l out) c.args.o n c.loop-left.left vs (world old out) (world c.put_property.new.s out) (omega arith)
-          (put_is (setting l out) c.args.o n (newest old.frames).stack vs c.text_in_value-name.result c.operand-named.result c.operand-v.result (world old out) (ap (λ (q : Frames). (newest q).stack) c.loop-left.invariant.stays.frames) c.operand-named.ensures.is c.text_in_value-name.ensures c.operand-v.ensures.is
+          ∙ put_step (setting_in l out) c.args.o n c.loop-left.left vs (world old out) (world c.put_property.new.s out) (omega arith)
+          (put_is (setting_in l out) c.args.o n (newest old.frames).stack vs c.text_in_value-name.result c.operand-named.result c.operand-v.result (world old out) (ap (λ (q : Frames). (newest q).stack) c.loop-left.invariant.stays.frames) c.operand-named.ensures.is c.text_in_value-name.ensures c.operand-v.ensures.is
           ∙ c.in_ok-put_property.ensures.part out);
     }
 
 pub returns-clause-part : goal.returns-clause-part
 returns-clause-part c = λ out.
     let none : c.loop-left.left ≡ 0 = omega arith in
-    c.loop-left.invariant.part out ∙ ap (λ k. set_all (setting c.args.linked.now out) c.args.o (entries_at k (newest c.args.s.now.frames).stack) (world c.loop-left.s out)) none
+    c.loop-left.invariant.part out ∙ ap (λ k. set_all (setting_in c.args.linked.now out) c.args.o (pairs_at k (newest c.args.s.now.frames).stack) (world c.loop-left.s out)) none
 
 pub returns-in_err-put_property-clause-part : goal.returns-in_err-put_property-clause-part
 returns-in_err-put_property-clause-part c = λ out.
@@ -72,8 +72,8 @@ returns-in_err-put_property-clause-part c = λ out.
     let vs = (newest c.args.s.now.frames).stack in
     let e = err_from_is_err_and c.from_residual.result c.from_residual.ensures.1 in
     rw (e.1, e.2) (c.loop-left.invariant.part out
-    ∙ put_stops (setting l out) c.args.o n c.loop-left.left vs (world old out) (world c.put_property.new.s out) (why c.in_err-put_property.field-0.0) (omega arith)
-    (put_is (setting l out) c.args.o n (newest old.frames).stack vs c.text_in_value-name.result c.operand-named.result c.operand-v.result (world old out) (ap (λ (q : Frames). (newest q).stack) c.loop-left.invariant.stays.frames) c.operand-named.ensures.is c.text_in_value-name.ensures c.operand-v.ensures.is
+    ∙ put_stops (setting_in l out) c.args.o n c.loop-left.left vs (world old out) (world c.put_property.new.s out) (why c.in_err-put_property.field-0.0) (omega arith)
+    (put_is (setting_in l out) c.args.o n (newest old.frames).stack vs c.text_in_value-name.result c.operand-named.result c.operand-v.result (world old out) (ap (λ (q : Frames). (newest q).stack) c.loop-left.invariant.stays.frames) c.operand-named.ensures.is c.text_in_value-name.ensures c.operand-v.ensures.is
     ∙ c.in_err-put_property.ensures.part out))
 
 pub returns-in_err-put_property-clause-stays : goal.returns-in_err-put_property-clause-stays

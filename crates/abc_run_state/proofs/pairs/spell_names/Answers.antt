@@ -4,10 +4,10 @@ use Rattle.std.proofs.lemmas.Result.{err_from_is_err_and}
 use Rattle.abc_heap_values.specs.declared.values.Value.{Value}
 use Rattle.abc_heap_values.specs.declared.values.Value.TheVariants.{Text}
 use Rattle.abc_frames.specs.Frame.{Frames, newest}
-use Rattle.abc_run_state.specs.Outer.{setting, world}
+use Rattle.abc_run_state.specs.Outer.{setting_in, world}
 use Rattle.abc_run_state.specs.Stops.{why}
 use Rattle.abc_meaning.specs.Ops.{spells}
-use Rattle.abc_run_state.specs.Pairs.{spelled}
+use Rattle.abc_run_state.specs.Pairs.{pair_texts}
 use Rattle.abc_run_state.proofs.Keeping.{operands_on, operands_same, same_operands, set_operand_set, set_stays}
 use Rattle.abc_run_state.proofs.Paired.{spelled_step, spelled_stops}
 use Rattle.abc_run_state.proofs.pairs.spell_names.Goals as goal
@@ -26,7 +26,7 @@ set_operand-requires g c =
 pub loop-left-preserved : goal.loop-left-preserved
 loop-left-preserved g c =
     let l = c.args.linked.now in
-    let p = setting l g.out in
+    let p = setting_in l g.out in
     let old = c.loop-left.s in
     let mid = c.spell.new.s in
     let n = c.loop-left.left - 1 in
@@ -41,7 +41,7 @@ loop-left-preserved g c =
       part =
           c.loop-left.invariant.part
           ∙ spelled_step p n c.loop-left.left vs (world old g.out) (world mid g.out) t (omega arith) (ap (λ (v : Value). spells p v (world old g.out)) (sym c.operand-name.ensures.is) ∙ c.in_ok-text.ensures.part)
-          ∙ ap (λ ws. spelled p n ws (world mid g.out)) (sym stack);
+          ∙ ap (λ ws. pair_texts p n ws (world mid g.out)) (sym stack);
       frames = operands_on c.args.s.now.frames old.frames mid.frames c.set_operand.new.self (2 * n + 1) (Text t) c.loop-left.invariant.frames stays.frames next;
       given = stays.given ∙ c.loop-left.invariant.given;
       long = ap (λ (ws : List Value). length ws) stack ∙ length-set vs (2 * n + 1) (Text t) ∙ c.loop-left.invariant.long;
@@ -49,13 +49,13 @@ loop-left-preserved g c =
 
 pub returns-clause-part : goal.returns-clause-part
 returns-clause-part g c =
-    let p = setting c.args.linked.now g.out in
+    let p = setting_in c.args.linked.now g.out in
     let none : c.loop-left.left ≡ 0 = omega arith in
-    c.loop-left.invariant.part ∙ ap (λ k. spelled p k (newest c.loop-left.s.frames).stack (world c.loop-left.s g.out)) none
+    c.loop-left.invariant.part ∙ ap (λ k. pair_texts p k (newest c.loop-left.s.frames).stack (world c.loop-left.s g.out)) none
 
 pub returns-in_err-text-clause-part : goal.returns-in_err-text-clause-part
 returns-in_err-text-clause-part g c =
-    let p = setting c.args.linked.now g.out in
+    let p = setting_in c.args.linked.now g.out in
     let old = c.loop-left.s in
     let e = err_from_is_err_and c.from_residual.result c.from_residual.ensures.1 in
     rw (e.1, e.2) (c.loop-left.invariant.part ∙ spelled_stops p (c.loop-left.left - 1) c.loop-left.left (newest old.frames).stack (world old g.out) (world c.spell.new.s g.out) (why c.in_err-text.field-0.0) (omega arith)

@@ -1,5 +1,5 @@
 use Rattle.std.proofs.Common.{[], ◌∷◌, refl, subst, sym}
-use Rattle.abc_meaning.specs.At.{goes, pushed}
+use Rattle.abc_meaning.specs.At.{goes, after_pushes}
 use Rattle.abc_heap_values.specs.declared.values.Span.{Span}
 use Rattle.abc_heap_values.specs.declared.values.Value.{Value}
 use Rattle.abc_heap_values.specs.declared.values.Value.TheVariants.{Text}
@@ -23,7 +23,7 @@ push_value-requires g c = let d = op_2C c.args.linked.now g.out c.args.s.now c.a
 
 pub returns-in-44 : goal.returns-in-44
 returns-in-44 g c = record {
-  runs = runs_at c.args.linked.now g.out c.args.s.now (λ o. One o c.args.n) c.args.op 44 0 1 _ _ c.in-44.is (subst (λ (x : Span). Does c.args.linked.now g.out c.args.s.now (One 44 c.args.n) 0 1 (goes (pushed (Text x ∷ []) (newest c.args.s.now.frames)))) (sym c.string_at.ensures) (op_2C c.args.linked.now g.out c.args.s.now c.args.n (can_at c.args.linked.now g.out c.args.s.now (λ o. One o c.args.n) c.args.op 44 c.in-44.is c.requires.0))) c.push_value.ensures.runs;
+  runs = runs_at c.args.linked.now g.out c.args.s.now (λ o. One o c.args.n) c.args.op 44 0 1 _ _ c.in-44.is (subst (λ (x : Span). Does c.args.linked.now g.out c.args.s.now (One 44 c.args.n) 0 1 (goes (after_pushes (Text x ∷ []) (newest c.args.s.now.frames)))) (sym c.string_at.ensures) (op_2C c.args.linked.now g.out c.args.s.now c.args.n (can_at c.args.linked.now g.out c.args.s.now (λ o. One o c.args.n) c.args.op 44 c.in-44.is c.requires.0))) c.push_value.ensures.runs;
   limit = c.push_value.ensures.limit;
 }
 
@@ -32,7 +32,7 @@ push_value-requires-in-45 g c = let d = op_2D c.args.linked.now g.out c.args.s.n
 
 pub returns-in-45 : goal.returns-in-45
 returns-in-45 g c = record {
-  runs = runs_at c.args.linked.now g.out c.args.s.now (λ o. One o c.args.n) c.args.op 45 0 1 _ _ c.in-45.is (subst (λ (x : Value). Does c.args.linked.now g.out c.args.s.now (One 45 c.args.n) 0 1 (goes (pushed (x ∷ []) (newest c.args.s.now.frames)))) (sym c.int_value.ensures) (op_2D c.args.linked.now g.out c.args.s.now c.args.n (can_at c.args.linked.now g.out c.args.s.now (λ o. One o c.args.n) c.args.op 45 c.in-45.is c.requires.0))) c.push_value-in-45.ensures.runs;
+  runs = runs_at c.args.linked.now g.out c.args.s.now (λ o. One o c.args.n) c.args.op 45 0 1 _ _ c.in-45.is (subst (λ (x : Value). Does c.args.linked.now g.out c.args.s.now (One 45 c.args.n) 0 1 (goes (after_pushes (x ∷ []) (newest c.args.s.now.frames)))) (sym c.int_value.ensures) (op_2D c.args.linked.now g.out c.args.s.now c.args.n (can_at c.args.linked.now g.out c.args.s.now (λ o. One o c.args.n) c.args.op 45 c.in-45.is c.requires.0))) c.push_value-in-45.ensures.runs;
   limit = c.push_value-in-45.ensures.limit;
 }
 
@@ -41,7 +41,7 @@ push_value-requires-in-46 g c = let d = op_2E c.args.linked.now g.out c.args.s.n
 
 pub returns-in-46 : goal.returns-in-46
 returns-in-46 g c = record {
-  runs = runs_at c.args.linked.now g.out c.args.s.now (λ o. One o c.args.n) c.args.op 46 0 1 _ _ c.in-46.is (subst (λ (x : Value). Does c.args.linked.now g.out c.args.s.now (One 46 c.args.n) 0 1 (goes (pushed (x ∷ []) (newest c.args.s.now.frames)))) (sym c.uint_value.ensures) (op_2E c.args.linked.now g.out c.args.s.now c.args.n (can_at c.args.linked.now g.out c.args.s.now (λ o. One o c.args.n) c.args.op 46 c.in-46.is c.requires.0))) c.push_value-in-46.ensures.runs;
+  runs = runs_at c.args.linked.now g.out c.args.s.now (λ o. One o c.args.n) c.args.op 46 0 1 _ _ c.in-46.is (subst (λ (x : Value). Does c.args.linked.now g.out c.args.s.now (One 46 c.args.n) 0 1 (goes (after_pushes (x ∷ []) (newest c.args.s.now.frames)))) (sym c.uint_value.ensures) (op_2E c.args.linked.now g.out c.args.s.now c.args.n (can_at c.args.linked.now g.out c.args.s.now (λ o. One o c.args.n) c.args.op 46 c.in-46.is c.requires.0))) c.push_value-in-46.ensures.runs;
   limit = c.push_value-in-46.ensures.limit;
 }
 

@@ -11,7 +11,7 @@ use Rattle.abc_text_lines.specs.Operands.{any_signed, signed_between}
 use Rattle.abc_file_types.specs.declared.code.Instr.TheVariants as instrs
 use Rattle.abc_text_lines.specs.Lineforms.{signed_in}
 use Rattle.abc_text_operands.proofs.Kinded.{single_bad, single_good}
-use Rattle.abc_text_tokens.specs.Walks.{token_of}
+use Rattle.abc_text_tokens.specs.Walks.{token_as_text}
 use Rattle.abc_text_operands.proofs.instructions.short.Goals as goal
 
 abbrev as_short : ℤ → Result Instr AsmReason
@@ -22,21 +22,21 @@ returns-in_default c labels = sym (single_bad (λ x. instrs.Short x.0) (λ i. (s
 
 pub short_of-requires-clause-low : goal.short_of-requires-clause-low
 short_of-requires-clause-low c =
-    let low : negsuc 32767 ≤ℤ c.in-Ok.number = (within_range (negsuc 32767) (pos 32767) (token_of c.in-Some.token) c.in-Ok.number c.in-Ok.ensures).0 in
-    let high : c.in-Ok.number ≤ℤ pos 32767 = (within_range (negsuc 32767) (pos 32767) (token_of c.in-Some.token) c.in-Ok.number c.in-Ok.ensures).1 in
+    let low : negsuc 32767 ≤ℤ c.in-Ok.number = (within_range (negsuc 32767) (pos 32767) (token_as_text c.in-Some.token) c.in-Ok.number c.in-Ok.ensures).0 in
+    let high : c.in-Ok.number ≤ℤ pos 32767 = (within_range (negsuc 32767) (pos 32767) (token_as_text c.in-Some.token) c.in-Ok.number c.in-Ok.ensures).1 in
     omega (arith, ints)
 
 pub short_of-requires-clause-high : goal.short_of-requires-clause-high
 short_of-requires-clause-high c =
-    let low : negsuc 32767 ≤ℤ c.in-Ok.number = (within_range (negsuc 32767) (pos 32767) (token_of c.in-Some.token) c.in-Ok.number c.in-Ok.ensures).0 in
-    let high : c.in-Ok.number ≤ℤ pos 32767 = (within_range (negsuc 32767) (pos 32767) (token_of c.in-Some.token) c.in-Ok.number c.in-Ok.ensures).1 in
+    let low : negsuc 32767 ≤ℤ c.in-Ok.number = (within_range (negsuc 32767) (pos 32767) (token_as_text c.in-Some.token) c.in-Ok.number c.in-Ok.ensures).0 in
+    let high : c.in-Ok.number ≤ℤ pos 32767 = (within_range (negsuc 32767) (pos 32767) (token_as_text c.in-Some.token) c.in-Ok.number c.in-Ok.ensures).1 in
     omega (arith, ints)
 
 pub returns-in-Ok : goal.returns-in-Ok
 unfolding any_signed
 returns-in-Ok c labels =
-    let low : negsuc 32767 ≤ℤ c.in-Ok.number = (within_range (negsuc 32767) (pos 32767) (token_of c.in-Some.token) c.in-Ok.number c.in-Ok.ensures).0 in
-    let high : c.in-Ok.number ≤ℤ pos 32767 = (within_range (negsuc 32767) (pos 32767) (token_of c.in-Some.token) c.in-Ok.number c.in-Ok.ensures).1 in
+    let low : negsuc 32767 ≤ℤ c.in-Ok.number = (within_range (negsuc 32767) (pos 32767) (token_as_text c.in-Some.token) c.in-Ok.number c.in-Ok.ensures).0 in
+    let high : c.in-Ok.number ≤ℤ pos 32767 = (within_range (negsuc 32767) (pos 32767) (token_as_text c.in-Some.token) c.in-Ok.number c.in-Ok.ensures).1 in
     let back : to_z w64 (of_z w64 c.in-Ok.number) ≡ c.in-Ok.number = omega (arith, ints) in
     let is : c.short_of.result ≡ c.in-Ok.number = c.short_of.ensures ∙ back in
     let shown : to_z w16 (of_z w16 c.short_of.result) ≡ c.in-Ok.number = omega (arith, ints) in

@@ -1,15 +1,15 @@
 use Rattle.std.proofs.Common.{Ok, Err, pos, negsuc, sym}
 use Rattle.abc_text_lines.specs.Operands.{target}
 use Rattle.abc_file_types.specs.declared.code.Instr.TheVariants as instrs
-use Rattle.abc_text_lines.specs.Lineforms.{first_of}
+use Rattle.abc_text_lines.specs.Lineforms.{first_operand}
 use Rattle.abc_text_operands.proofs.Kinded.{single_bad, single_good}
 use Rattle.abc_text_operands.proofs.instructions.to_label.Goals as goal
 
 pub returns-in_default : goal.returns-in_default
-returns-in_default c labels places = sym (single_bad (λ x. instrs.Branch c.args.op x.0) (λ i. (first_of i, tt)) target c.args.tokens.now labels c.in_default.ensures)
+returns-in_default c labels places = sym (single_bad (λ x. instrs.Branch c.args.op x.0) (λ i. (first_operand i, tt)) target c.args.tokens.now labels c.in_default.ensures)
 
 pub returns-in-Ok : goal.returns-in-Ok
-returns-in-Ok c labels places = sym (single_good (λ x. instrs.Branch c.args.op x.0) (λ i. (first_of i, tt)) target c.args.tokens.now c.in-Some.token labels (Ok c.in-Ok.place) c.in-Some.ensures (c.in-Ok.ensures labels places))
+returns-in-Ok c labels places = sym (single_good (λ x. instrs.Branch c.args.op x.0) (λ i. (first_operand i, tt)) target c.args.tokens.now c.in-Some.token labels (Ok c.in-Ok.place) c.in-Some.ensures (c.in-Ok.ensures labels places))
 
 pub returns-in-Err : goal.returns-in-Err
-returns-in-Err c labels places = sym (single_good (λ x. instrs.Branch c.args.op x.0) (λ i. (first_of i, tt)) target c.args.tokens.now c.in-Some.token labels (Err c.in-Err.reason) c.in-Some.ensures (c.in-Err.ensures labels places))
+returns-in-Err c labels places = sym (single_good (λ x. instrs.Branch c.args.op x.0) (λ i. (first_operand i, tt)) target c.args.tokens.now c.in-Some.token labels (Err c.in-Err.reason) c.in-Some.ensures (c.in-Err.ensures labels places))

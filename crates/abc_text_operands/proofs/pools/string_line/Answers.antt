@@ -1,6 +1,6 @@
 -- A quoted text, and what is none.
 use Rattle.std.proofs.Common.{sym}
-use Rattle.abc_text_lines.specs.Operands.{text}
+use Rattle.abc_text_lines.specs.Operands.{text_operand}
 use Rattle.abc_text_lines.specs.Lineforms as forms
 use Rattle.abc_text_operands.proofs.Joining.{alone_bad}
 use Rattle.abc_text_operands.proofs.More.{text_bare, text_quoted}
@@ -14,4 +14,4 @@ returns-in-Some-Bare c labels = text_bare c.args.tokens.now c.in-Some-Bare.field
 
 pub returns-in-None : goal.returns-in-None
 unfolding forms.string_line
-returns-in-None c labels = sym (alone_bad text c.args.tokens.now labels c.in-None.ensures)
+returns-in-None c labels = sym (alone_bad text_operand c.args.tokens.now labels c.in-None.ensures)

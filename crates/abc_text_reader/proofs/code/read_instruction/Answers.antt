@@ -1,8 +1,8 @@
 -- The line is broken or whole.
 use Rattle.std.proofs.Common.{List, subst}
 use Rattle.std.proofs.lemmas.Result.{err_from_is_err_and}
-use Rattle.abc_text_lines.specs.Lineforms.{instruction_line}
-use Rattle.abc_text_operands.specs.Answers.{Answers}
+use Rattle.abc_text_lines.specs.Lineforms.{instruction_operands}
+use Rattle.abc_text_operands.specs.Answers.{AnswersOperand}
 use Rattle.abc_text_operands.specs.Joined.{line_result}
 use Rattle.abc_text_tokens.specs.Walks.{tokens_of}
 use Rattle.abc_text_tokens.specs.declared.token.Token.{Token}
@@ -21,5 +21,5 @@ returns-clause-reads c =
     let new = c.take.new.self in
     let taken = c.in_ok-taken.taken in
     let e = c.in_ok-taken.ensures in
-    let says = subst (λ (ts : List Token). Answers c.instruction_line-instr.result (line_result (instruction_line c.args.op) (labels_now new.body) (tokens_of ts))) c.as_slice.ensures.value (c.instruction_line-instr.ensures (labels_now new.body) e.labels) in
+    let says = subst (λ (ts : List Token). AnswersOperand c.instruction_line-instr.result (line_result (instruction_operands c.args.op) (labels_now new.body) (tokens_of ts))) c.as_slice.ensures.value (c.instruction_line-instr.ensures (labels_now new.body) e.labels) in
     rw c.made.ensures (instruction_reads c.args.reader.now new taken e.row c.args.op c.instruction_line-instr.result (word_is c.args.reader.now new taken _ c.requires.next e.row) e.once says)

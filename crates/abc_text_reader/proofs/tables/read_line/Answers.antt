@@ -2,7 +2,7 @@
 use Rattle.std.proofs.Common.{ℕ, List, subst}
 use Rattle.std.proofs.lemmas.Result.{err_from_is_err_and}
 use Rattle.abc_text_lines.specs.Lines.{Label}
-use Rattle.abc_text_operands.specs.Answers.{Answers}
+use Rattle.abc_text_operands.specs.Answers.{AnswersOperand}
 use Rattle.abc_text_operands.specs.Places.{Places}
 use Rattle.abc_text_tokens.specs.Walks.{tokens_of}
 use Rattle.abc_text_tokens.specs.declared.token.Token.{Token}
@@ -21,5 +21,5 @@ returns-clause-reads g c =
     let taken = c.in_ok-taken.taken in
     let e = c.in_ok-taken.ensures in
     let plain = g.met.F.Flat.plain in
-    let says = subst (λ (ts : List Token). (instances : ℕ) (labels : List Label) → Places new.places labels → Answers c.line-value.result (line_says g.F.Flat.named g.F.Flat.value new.sizes instances labels (tokens_of ts))) c.as_slice.ensures.value c.line-value.ensures in
+    let says = subst (λ (ts : List Token). (instances : ℕ) (labels : List Label) → Places new.places labels → AnswersOperand c.line-value.result (line_says g.F.Flat.named g.F.Flat.value new.sizes instances labels (tokens_of ts))) c.as_slice.ensures.value c.line-value.ensures in
     rw c.made.ensures (lone_reads g.F.Flat.named g.F.Flat.value c.args.reader.now new taken c.line-value.result plain (named_is g.F.Flat.named c.args.reader.now new taken plain.apart c.requires.next e.row) e.once e.row e.goes.sizes e.labels says)

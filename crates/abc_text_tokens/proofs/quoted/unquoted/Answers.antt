@@ -1,7 +1,7 @@
 -- The text so far.
 use Rattle.std.proofs.Common.{◌≡◌, ◌+◌, ◌++◌, ◌∷◌, [], ℕ, List, true, false, drop, sym, ap, ◌∙◌, append-nil, arith}
 use Rattle.std.proofs.lemmas.List.{drop_all, length-drop}
-use Rattle.abc_text_tokens.specs.Walks.{begins_escape, meant}
+use Rattle.abc_text_tokens.specs.Walks.{begins_escape, quoted_text}
 use Rattle.abc_text_tokens.proofs.Quoting.{escape_hex, made_escape, made_plain, meant_empty, within_escape}
 use Rattle.abc_text_tokens.proofs.Walking.{tail_is}
 use Rattle.abc_text_tokens.proofs.quoted.unquoted.Goals as goal
@@ -26,7 +26,7 @@ loop-i-preserved-then-is_escape c =
     let pushed : c.push.new.self ≡ c.loop-i.text ++ c.hex_pair.result ∷ [] = c.in_ok-push.ensures.ok in
     record {
       within = omega (arith, far, len);
-      made = ap (λ (t : List ℕ). t ++ meant (drop (i + 3) bytes)) (pushed ∙ ap (λ (n : ℕ). c.loop-i.text ++ n ∷ []) c.hex_pair.ensures) ∙ made_escape bytes c.loop-i.text i is c.loop-i.invariant.made;
+      made = ap (λ (t : List ℕ). t ++ quoted_text (drop (i + 3) bytes)) (pushed ∙ ap (λ (n : ℕ). c.loop-i.text ++ n ∷ []) c.hex_pair.ensures) ∙ made_escape bytes c.loop-i.text i is c.loop-i.invariant.made;
     }
 
 pub loop-i-preserved : goal.loop-i-preserved
@@ -36,10 +36,10 @@ loop-i-preserved c =
     let none : begins_escape (drop i bytes) ≡ false = ap begins_escape (sym (tail_is bytes i)) ∙ cc (c.is_escape.ensures, c.if-is_escape.false) in
     record {
       within = omega (arith, c.loop-i-test.true);
-      made = ap (λ (t : List ℕ). t ++ meant (drop (i + 1) bytes)) c.in_ok-push-2.ensures.ok ∙ made_plain bytes c.loop-i.text i c.loop-i-test.true none c.loop-i.invariant.made;
+      made = ap (λ (t : List ℕ). t ++ quoted_text (drop (i + 1) bytes)) c.in_ok-push-2.ensures.ok ∙ made_plain bytes c.loop-i.text i c.loop-i-test.true none c.loop-i.invariant.made;
     }
 
 pub returns : goal.returns
 returns c =
     let all : drop c.loop-i.i c.args.quoted.now ≡ [] = drop_all c.loop-i.i c.args.quoted.now (omega (arith, c.loop-i-test.false)) in
-    sym (append-nil c.loop-i.text) ∙ ap (λ (l : List ℕ). c.loop-i.text ++ l) (sym (ap meant all ∙ meant_empty)) ∙ c.loop-i.invariant.made
+    sym (append-nil c.loop-i.text) ∙ ap (λ (l : List ℕ). c.loop-i.text ++ l) (sym (ap quoted_text all ∙ meant_empty)) ∙ c.loop-i.invariant.made

@@ -1,5 +1,5 @@
 use Rattle.std.proofs.Common.{ap, length, refl, subst, ◌∙◌}
-use Rattle.abc_base_trees.specs.Classes.{AreClasses}
+use Rattle.abc_base_trees.specs.Classes.{AreTreeClasses}
 use Rattle.abc_tidy_entries.specs.Entries.{heads_of}
 use Rattle.abc_tidy_entries.specs.Heads.{TellHeads}
 use Rattle.abc_tidy_entries.specs.Visited.{roots_of}
@@ -36,7 +36,7 @@ check_classes-requires-clause-rooted c = c.requires.roots
 
 pub check_classes-requires-clause-valid : goal.check_classes-requires-clause-valid
 check_classes-requires-clause-valid c =
-    subst (λ g. AreClasses c.in_ok-heads.heads g c.in_ok-classes.classes.keys.keys c.in_ok-classes.classes.classes) c.in_ok-graph.ensures c.in_ok-classes.ensures.valid
+    subst (λ g. AreTreeClasses c.in_ok-heads.heads g c.in_ok-classes.classes.keys.keys c.in_ok-classes.classes.classes) c.in_ok-graph.ensures c.in_ok-classes.ensures.valid
 
 pub check_classes-requires-clause-ordered : goal.check_classes-requires-clause-ordered
 check_classes-requires-clause-ordered c = λ holds.

@@ -1,5 +1,5 @@
 use Rattle.std.proofs.Common.{refl}
-use Rattle.abc_tidy_refs.specs.Nodes.{number_in}
+use Rattle.abc_tidy_refs.specs.Nodes.{new_index}
 use Rattle.abc_tidy_refs.specs.Renumbered.{beside, new_file}
 use Rattle.abc_tidy_entries.specs.Visited.{roots_of}
 use Rattle.abc_tidy_entries.proofs.Once.{once_classed, visited_all}
@@ -30,7 +30,7 @@ numbers_of-requires c = record {
 pub returns : goal.returns
 returns c =
     let k = c.requires.classed in
-    tidied_value c.args.abc.now c.in_ok-pools.pools (beside (new_file (number_in (with_numbers c.args.counts c.in_ok-all.all)) c.args.abc.now) c.in_ok-pools.pools) c.args.counts c.args.classed.now.heads c.args.classed.now.graph (roots_of c.args.abc.now) c.in_ok-seen.seen c.in_ok-all.all
+    tidied_value c.args.abc.now c.in_ok-pools.pools (beside (new_file (new_index (with_numbers c.args.counts c.in_ok-all.all)) c.args.abc.now) c.in_ok-pools.pools) c.args.counts c.args.classed.now.heads c.args.classed.now.graph (roots_of c.args.abc.now) c.in_ok-seen.seen c.in_ok-all.all
     c.requires.counts k.graph_is refl
     c.args.classed.now.classes.keys.keys c.args.classed.now.classes.classes k.alike k.valid k.classed c.in_ok-seen.ensures.classed
     (visited_all c.args.classed.now.heads c.args.classed.now.graph c.args.classed.now.roots (roots_of c.args.abc.now) c.in_ok-seen.seen k.roots_are c.in_ok-seen.ensures.visited) c.in_ok-all.ensures c.in_ok-pools.ensures refl

@@ -1,5 +1,5 @@
 use Rattle.std.proofs.Common.{◌≡◌, ℕ, ◌<◌, length, Some, sym, ap, subst, ◌∙◌}
-use Rattle.abc_base_trees.specs.Classes.{class}
+use Rattle.abc_base_trees.specs.Classes.{tree_class}
 use Rattle.abc_tidy_entries.proofs.Firsts.{at_zero}
 use Rattle.abc_tidy_entries.proofs.Numbered.{class_small, noted_length, place_noted, places_begin, replicate_many}
 use Rattle.abc_tidy_entries.proofs.numbering.places_of.Goals as goal
@@ -22,6 +22,6 @@ loop-i-preserved c =
     (class_small c.args._heads.now c.args._graph.now c.args.classes.now.keys.keys c.args.classes.now.classes c.get.result.now d c.requires.valid (sym c.class-class.ensures ∙ e)) in
     let lt : c.loop-i.i < length c.args.seen.now = subst (λ n. c.loop-i.i < n) c.len-i-end.ensures c.loop-i-test.true in (
       place_noted c.args.classes.now.classes c.args.seen.now c.loop-i.places c.note_place.new.places c.loop-i.i c.class-class.result c.requires.apart c.loop-i.invariant.0 lt
-          (c.class-class.ensures ∙ ap (class c.args.classes.now.classes) (at_zero c.args.seen.now c.loop-i.i c.get.result.now lt c.get.ensures)) small c.note_place.ensures,
+          (c.class-class.ensures ∙ ap (tree_class c.args.classes.now.classes) (at_zero c.args.seen.now c.loop-i.i c.get.result.now lt c.get.ensures)) small c.note_place.ensures,
       ap length c.note_place.ensures ∙ noted_length c.loop-i.places c.class-class.result c.loop-i.i ∙ c.loop-i.invariant.1,
     )

@@ -1,6 +1,6 @@
 use Rattle.std.proofs.Common.{◌≡◌, ◌<◌, bytes_eq, length, subst, arith}
 use Rattle.abc_base_graphs.specs.Texts.{texts_of}
-use Rattle.abc_tidy_entries.specs.Heads.{HasPlaces}
+use Rattle.abc_tidy_entries.specs.Heads.{HasHeadPlaces}
 use Rattle.abc_tidy_entries.proofs.Placing.{places_next, places_none, read_at}
 use Rattle.abc_tidy_entries.proofs.places.places_of_texts.Goals as goal
 
@@ -16,4 +16,4 @@ loop-i-preserved c =
 pub returns : goal.returns
 returns c =
     let same : c.loop-i.i ≡ length c.args.strings.now = omega (arith, c.loop-i-test.false, c.loop-i.auto.i-end, c.len-i-end.ensures) in
-    subst (λ n. HasPlaces bytes_eq c.args.marks.now c.args.begin c.args.strings.now (texts_of c.args.chosen.now) n c.loop-i.places) same c.loop-i.invariant
+    subst (λ n. HasHeadPlaces bytes_eq c.args.marks.now c.args.begin c.args.strings.now (texts_of c.args.chosen.now) n c.loop-i.places) same c.loop-i.invariant

@@ -7,7 +7,7 @@ use Rattle.abc_varint.specs.declared.error.ReadError.{ReadError}
 use Rattle.abc_varint.specs.declared.error.ReadError.TheVariants as errors
 use Rattle.abc_varint.proofs.Answering.{answers}
 use Rattle.abc_varint.proofs.Loop.{other_err}
-use Rattle.abc_traits.specs.Definitions.{with_definitions}
+use Rattle.abc_traits.specs.Definitions.{with_later_tables}
 use Rattle.abc_traits.proofs.Filling.{fills_ok, fills_err}
 use Rattle.abc_traits.proofs.definitions.read_definitions.Goals as goal
 
@@ -28,7 +28,7 @@ returns-in-Ok-clause-answers g c =
     let s = g.S.Source.left c.args.source.now in
     let w2 = c.read_tables.new.w in
     let s2 = g.S.Source.left c.read_tables.new.source in
-    let r : Result Abc ReadError = Ok (with_definitions abc c.in-Ok.found) in
+    let r : Result Abc ReadError = Ok (with_later_tables abc c.in-Ok.found) in
     answers (definitions abc) (definitions-exact abc) w w2 s s2 r (omega (arith, c.place.ensures.is, c.place.ensures.bound))
     (fills_ok abc c.pool_sizes-pools.result w s w2 s2 c.in-Ok.found c.pool_sizes-pools.ensures c.in-Ok.ensures.0)
 

@@ -3,7 +3,7 @@ use Rattle.std.proofs.Common.{◌≡◌, length}
 use Rattle.abc_file_types.specs.Numbers.{pool_index}
 use Rattle.abc_file_types.specs.Methods.{method, method_bytes}
 use Rattle.std.proofs.lemmas.Result.{err_from_is_err_and}
-use Rattle.abc_varint.specs.Reads.{known}
+use Rattle.abc_varint.specs.Reads.{known_input}
 use Rattle.abc_varint.proofs.Inputs.{known_is}
 use Rattle.abc_varint.proofs.Passing.{times_count}
 use Rattle.abc_traits.proofs.methods.pass_method.Goals as goal
@@ -43,7 +43,7 @@ returns-in_err-put_u8 g c =
     let e1 = c.in_ok-count.ensures.value.0 in let e2 = c.in_ok-pass.ensures in let e3 = c.in_ok-pass_times.ensures in let e4 = c.in_ok-pass-2.ensures in let e5 = c.in_ok-flags.ensures.value.0 in
     rw (p.1, p.2) (
       (λ k.
-          let w = c.read_u8.new.w in let s = g.S.Source.left c.read_u8.new.source in let input = known w s in
+          let w = c.read_u8.new.w in let s = g.S.Source.left c.read_u8.new.source in let input = known_input w s in
           let d5 = e5.0.4 input (known_is w s) in let d4 = e4.0.4 input d5.0 in let d3 = e3.0.4 input d4.0 in let d2 = e2.0.4 input d3.0 in let d1 = e1.0.4 input d2.0 in
           (d1.0, tt)),
       (λ e h. absurd (let k = e1.0.0 in cc)),

@@ -2,7 +2,7 @@ use Rattle.std.proofs.Common.{◌≡◌, ◌-◌, ◌+◌, ◌∷◌, ◌++◌, 
 use Rattle.std.proofs.lemmas.Result.{err_from_is_err_and}
 use Rattle.abc_file_types.specs.Numbers.{u8}
 use Rattle.abc_varint.specs.declared.error.ReadError.TheVariants as errors
-use Rattle.abc_varint.specs.View.{held}
+use Rattle.abc_varint.specs.View.{held_bytes}
 use Rattle.abc_varint.proofs.Chunks.{far_length, goes_far, more_length}
 use Rattle.abc_varint.proofs.Loop.{ends, goes_on, other_err, starts}
 use Rattle.abc_varint.proofs.text.gather_bytes.Goals as goal
@@ -16,7 +16,7 @@ loop-missing-init g c =
     rw (t.bytes, t.window, c.new-bytes.ensures) (
       goes_far n count (count - 0) (count - n) [] _ _ _ _ all t.few.1 t.room.0 t.room.1 (starts u8 count c.args.w.now (g.S.Source.left c.args.source.now) c.requires),
       omega arith,
-      far_length n (count - n) (count - 0) count [] (held c.args.w.now) all t.few.1 (omega arith),
+      far_length n (count - n) (count - 0) count [] (held_bytes c.args.w.now) all t.few.1 (omega arith),
     )
 
 pub returns-in_err-x-clause-value : goal.returns-in_err-x-clause-value

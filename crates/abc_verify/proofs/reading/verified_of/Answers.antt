@@ -1,5 +1,5 @@
 use Rattle.std.proofs.Common.{ap, refl, subst, sym}
-use Rattle.abc_link_layouts.specs.Numbering.{IsNumbered}
+use Rattle.abc_link_layouts.specs.Numbering.{HasLayoutNumbers}
 use Rattle.abc_link_names.specs.Linked.{IsLinkedFile, LinkedFile}
 use Rattle.abc_verify.specs.Typed.{AllTyped}
 use Rattle.abc_verify.specs.FileRefusing.{IsUnverifiedBy}
@@ -18,4 +18,4 @@ returns-in-Err-clause-refused c =
 pub returns-in-Ok-clause-ok : goal.returns-in-Ok-clause-ok
 returns-in-Ok-clause-ok c =
     let same = c.in-Ok.ensures.0 in
-    record { file = ap (λ (l : LinkedFile). l.file) same; linked = subst IsLinkedFile (sym same) c.requires.linked; numbered = subst IsNumbered (sym same) c.requires.numbered; typed = subst AllTyped (sym same) c.in-Ok.ensures.2 }
+    record { file = ap (λ (l : LinkedFile). l.file) same; linked = subst IsLinkedFile (sym same) c.requires.linked; numbered = subst HasLayoutNumbers (sym same) c.requires.numbered; typed = subst AllTyped (sym same) c.in-Ok.ensures.2 }

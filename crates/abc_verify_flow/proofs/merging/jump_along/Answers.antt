@@ -1,18 +1,18 @@
 use Rattle.std.proofs.Common.{subst, sym, ap}
 use Rattle.abc_verify_flow.proofs.merging.jump_along.Goals as goal
 use Rattle.std.proofs.Common.{map}
-use Rattle.abc_verify_flow.specs.Walking.{AreReady, AllReach, landing}
+use Rattle.abc_verify_flow.specs.Walking.{AreEntriesReady, AllReach, landing}
 use Rattle.abc_verify_flow.proofs.Places.{reach_nowhere, one_ready, first_ready, rest_ready, reach_rest}
 use Rattle.abc_verify_typing.specs.Instructions.{targets}
 
 pub jump_to-requires-clause-ready : goal.jump_to-requires-clause-ready
-jump_to-requires-clause-ready g c = one_ready _ _ _ _ _ (subst (λ i. AreReady (g.F.Flow.file c.args.flow.now) (g.F.Flow.routine c.args.flow.now) (g.F.Flow.heads c.args.flow.now) (map (landing c.args.state.now) (targets i))) c.in-Branch.is c.requires.ready)
+jump_to-requires-clause-ready g c = one_ready _ _ _ _ _ (subst (λ i. AreEntriesReady (g.F.Flow.file c.args.flow.now) (g.F.Flow.routine c.args.flow.now) (g.F.Flow.heads c.args.flow.now) (map (landing c.args.state.now) (targets i))) c.in-Branch.is c.requires.ready)
 
 pub jump_to-requires-in-Switch-clause-ready : goal.jump_to-requires-in-Switch-clause-ready
-jump_to-requires-in-Switch-clause-ready g c = first_ready _ _ _ _ _ c.in-Switch.cases (subst (λ i. AreReady (g.F.Flow.file c.args.flow.now) (g.F.Flow.routine c.args.flow.now) (g.F.Flow.heads c.args.flow.now) (map (landing c.args.state.now) (targets i))) c.in-Switch.is c.requires.ready)
+jump_to-requires-in-Switch-clause-ready g c = first_ready _ _ _ _ _ c.in-Switch.cases (subst (λ i. AreEntriesReady (g.F.Flow.file c.args.flow.now) (g.F.Flow.routine c.args.flow.now) (g.F.Flow.heads c.args.flow.now) (map (landing c.args.state.now) (targets i))) c.in-Switch.is c.requires.ready)
 
 pub jump_cases-requires-clause-ready : goal.jump_cases-requires-clause-ready
-jump_cases-requires-clause-ready g c = rest_ready _ _ _ _ c.in-Switch.default c.in-Switch.cases _ c.as_slice.ensures (subst (λ i. AreReady (g.F.Flow.file c.args.flow.now) (g.F.Flow.routine c.args.flow.now) (g.F.Flow.heads c.args.flow.now) (map (landing c.args.state.now) (targets i))) c.in-Switch.is c.requires.ready)
+jump_cases-requires-clause-ready g c = rest_ready _ _ _ _ c.in-Switch.default c.in-Switch.cases _ c.as_slice.ensures (subst (λ i. AreEntriesReady (g.F.Flow.file c.args.flow.now) (g.F.Flow.routine c.args.flow.now) (g.F.Flow.heads c.args.flow.now) (map (landing c.args.state.now) (targets i))) c.in-Switch.is c.requires.ready)
 
 pub returns-in_ok-jump_cases-in-Switch : goal.returns-in_ok-jump_cases-in-Switch
 returns-in_ok-jump_cases-in-Switch g c = subst (λ i. AllReach (g.F.Flow.file c.args.flow.now) (g.F.Flow.routine c.args.flow.now) (g.F.Flow.heads c.args.flow.now) (map (landing c.args.state.now) (targets i)) c.args.states.now c.args.work.now c.jump_cases.new.states c.jump_cases.new.work) (sym c.in-Switch.is) (reach_rest _ _ _ _ _ _ _ _ _ _ _ _ _ c.as_slice.ensures c.in_ok-jump_to-in-Switch.ensures c.in_ok-jump_cases-in-Switch.ensures)

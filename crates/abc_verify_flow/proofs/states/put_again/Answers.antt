@@ -1,6 +1,6 @@
 use Rattle.std.proofs.Common.{◌≡◌, ◌+◌, ℕ, length, set, subst, sym}
 use Rattle.std.specs.Prelude.{Bool, cond}
-use Rattle.abc_verify_flow.specs.Kept.{AreNumbers}
+use Rattle.abc_verify_flow.specs.Kept.{ArePlaceNumbers}
 use Rattle.abc_verify_flow.proofs.Parts.{got_inside}
 use Rattle.abc_verify_flow.proofs.Numbers.{again_known, has_inside}
 use Rattle.abc_verify_flow.proofs.states.put_again.Goals as goal
@@ -9,7 +9,7 @@ pub put-requires : goal.put-requires
 put-requires c = has_inside c.args.numbers.now (length c.args.known.now) c.args.place c.args.index c.requires.numbers c.requires.has
 
 pub returns-in_err-put-clause-numbers : goal.returns-in_err-put-clause-numbers
-returns-in_err-put-clause-numbers c = subst (λ (n : ℕ). AreNumbers c.args.numbers.now n) (sym c.put.ensures.as_many) c.requires.numbers
+returns-in_err-put-clause-numbers c = subst (λ (n : ℕ). ArePlaceNumbers c.args.numbers.now n) (sym c.put.ensures.as_many) c.requires.numbers
 
 pub returns-then-branch-clause-known : goal.returns-then-branch-clause-known
 returns-then-branch-clause-known c =

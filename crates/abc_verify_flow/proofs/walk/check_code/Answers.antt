@@ -3,14 +3,14 @@ use Rattle.std.specs.Prelude.{replicate, Option}
 use Rattle.std.proofs.lemmas.List.{length-replicate}
 use Rattle.abc_verify_typing.specs.Typing.{entry}
 use Rattle.abc_verify_typing.specs.declared.state.State.{State}
-use Rattle.abc_verify_typing.specs.Work.{IsUnderWay, total}
-use Rattle.abc_verify_typing.specs.Rank.{layouts, rank, top}
+use Rattle.abc_verify_typing.specs.Work.{IsUnderWay, total_rank}
+use Rattle.abc_verify_typing.specs.Rank.{layouts, rank_of_state, top_rank}
 use Rattle.abc_verify_typing.proofs.Turn.{begins}
 use Rattle.abc_verify_typing.proofs.Heads.{heads_typing}
 use Rattle.abc_verify_flow.specs.Telling.{IsHandled}
 use Rattle.abc_verify_flow.proofs.Told.{kept_first}
 use Rattle.abc_verify_flow.proofs.Counts.{few_walks, first_rises, known_first, known_on, next_most, once_first, once_last, once_on}
-use Rattle.abc_verify_flow.specs.Waits.{IsAdded}
+use Rattle.abc_verify_flow.specs.Waits.{IsPlaceAdded}
 use Rattle.abc_verify_flow.proofs.Walks.{waits_first}
 use Rattle.abc_verify_flow.specs.Walking.{is_head}
 use Rattle.abc_verify_typing.specs.declared.catch.Catch.{Catch}
@@ -35,11 +35,11 @@ loop-place-init g c =
     let none : c.clear.new.self ≡ [] = c.clear.ensures in
     let one = c.in_ok-raise.ensures.1.most in
     let empty : length c.clear.new.self ≡ 0 = ap length none in
-    let rise : total (rank (layouts p)) (top (layouts p) m) c.raise.new.states + 1 ≤ total (rank (layouts p)) (top (layouts p) m) (replicate (length m.code) None) = subst (λ (x : List (Option State)). total (rank (layouts p)) (top (layouts p) m) x + 1 ≤ total (rank (layouts p)) (top (layouts p) m) (replicate (length m.code) None)) (sym e) (first_rises p m heads c.requires.linked c.requires.some c.requires.heads.first) in (
+    let rise : total_rank (rank_of_state (layouts p)) (top_rank (layouts p) m) c.raise.new.states + 1 ≤ total_rank (rank_of_state (layouts p)) (top_rank (layouts p) m) (replicate (length m.code) None) = subst (λ (x : List (Option State)). total_rank (rank_of_state (layouts p)) (top_rank (layouts p) m) x + 1 ≤ total_rank (rank_of_state (layouts p)) (top_rank (layouts p) m) (replicate (length m.code) None)) (sym e) (first_rises p m heads c.requires.linked c.requires.some c.requires.heads.first) in (
       subst (λ (x : List (Option State)). IsUnderWay p m h x c.raise.new.work) (sym e) (waits_first p m h (set (replicate (length m.code) None) 0 (Some (entry m))) 0 _ c.raise.new.work (begins p m h c.requires.some c.requires.heads.first) c.in_ok-raise.ensures.1),
       kept_first p m heads c.in_ok-handled.handled.all c.renew.new.self c.raise.new.states c.nodes.result c.nodes.ensures.is c.renew.ensures,
       omega (arith, one, empty, rise),
-      known_first p m c.raise.new.states c.raise.new.work c.requires.some e (subst (λ (w : List ℕ). IsAdded 0 w c.raise.new.work) none c.in_ok-raise.ensures.1),
+      known_first p m c.raise.new.states c.raise.new.work c.requires.some e (subst (λ (w : List ℕ). IsPlaceAdded 0 w c.raise.new.work) none c.in_ok-raise.ensures.1),
       λ on. once_first 0 c.raise.new.states c.raise.new.work refl,
     )
 
@@ -71,6 +71,6 @@ returns g c =
     let walks = c.loop-place.invariant.2 in
     record {
       typing = heads_typing p m h c.loop-place.states (subst (λ (w : List ℕ). IsUnderWay p m h c.loop-place.states w) c.in_default.ensures c.loop-place.invariant.0);
-      few = few_walks (rank (layouts p)) (top (layouts p) m) c.loop-place.states c.loop-place.walks (length m.code) c.loop-place.invariant.0.long (omega (arith, walks));
+      few = few_walks (rank_of_state (layouts p)) (top_rank (layouts p) m) c.loop-place.states c.loop-place.walks (length m.code) c.loop-place.invariant.0.long (omega (arith, walks));
       once = λ on. once_last _ c.loop-place.states _ (c.loop-place.invariant.4 on);
     }

@@ -1,5 +1,5 @@
 use Rattle.std.proofs.Common.{◌≡◌}
-use Rattle.abc_base_graphs.specs.Graph.{targets}
+use Rattle.abc_base_graphs.specs.Graph.{leads_to}
 use Rattle.abc_base_trees.specs.Classes.{IsBuilt}
 use Rattle.abc_base_trees.proofs.classes.Classes.class_of.Given as goal
 
@@ -7,5 +7,5 @@ abbrev pub invariant-loop-part : goal.invariant-loop-part
 invariant-loop-part l = record {
   built : IsBuilt l.heads l.graph l.node l.part-index l.fn.self.keys.keys l.self.keys.keys l.self.classes l.class;
   classes : l.self.classes ≡ l.fn.self.classes;
-  parts : l.part-items ≡ targets l.graph l.node;
+  parts : l.part-items ≡ leads_to l.graph l.node;
 }

@@ -1,5 +1,5 @@
 use Rattle.std.proofs.Common.{get_or, true, length, ap, ◌∙◌, ◌∷◌, arith}
-use Rattle.abc_base_graphs.specs.Graph.{targets}
+use Rattle.abc_base_graphs.specs.Graph.{leads_to}
 use Rattle.abc_base_trees.specs.Walks.{leave}
 use Rattle.abc_base_trees.proofs.Efforts.{entered_less, unmarked_within}
 use Rattle.abc_base_trees.proofs.Walked.{length_pushed, step_enters, step_leaves, step_skips}
@@ -23,7 +23,7 @@ pub returns-clause-less : goal.returns-clause-less
 returns-clause-less c =
     entered_less c.args.graph.now c.args.self.now.entered.items c.enter.new.self.entered.items c.args.task.node (length c.enter.new.self.todo) (length c.args.self.now.todo) c.requires.marks
     (c.if-has_mark.ensures ∙ ap (λ ms. get_or ms c.args.task.node true) c.deref.ensures.value) c.in_ok-enter.ensures.marks
-    (ap length c.in_ok-enter.ensures.todo ∙ length_pushed (targets c.args.graph.now c.args.task.node) (leave c.args.task.node ∷ c.args.self.now.todo))
+    (ap length c.in_ok-enter.ensures.todo ∙ length_pushed (leads_to c.args.graph.now c.args.task.node) (leave c.args.task.node ∷ c.args.self.now.todo))
 
 pub enter-requires-clause-within : goal.enter-requires-clause-within
 enter-requires-clause-within c =

@@ -1,4 +1,4 @@
-use Rattle.abc_base.specs.Hosts.{arguments, builtin_formulas}
+use Rattle.abc_base.specs.Hosts.{plain_arguments, builtin_formulas}
 use Rattle.abc_c.proofs.Telling.{done_as}
 use Rattle.abc_c.proofs.kept.Kept.call.Goals as goal
 
@@ -8,4 +8,4 @@ invariant_of-self c = record {
 }
 
 pub returns : goal.returns
-returns c = done_as c.args.self.now.session c.call-reply.new.self c.args.method c.args.call.now (arguments c.numbers-numbers.result) c.args.out.now.taken c.call-reply.new.out.taken c.tell.new.out.taken c.call-reply.result c.tell.result c.numbers-numbers.ensures c.call-reply.ensures.answers c.tell.ensures
+returns c = done_as c.args.self.now.session c.call-reply.new.self c.args.method c.args.call.now (plain_arguments c.numbers-numbers.result) c.args.out.now.taken c.call-reply.new.out.taken c.tell.new.out.taken c.call-reply.result c.tell.result c.numbers-numbers.ensures c.call-reply.ensures.answers c.tell.ensures

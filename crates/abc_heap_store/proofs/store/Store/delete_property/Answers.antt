@@ -5,7 +5,7 @@ use Rattle.abc_heap_values.specs.declared.cell.Held.TheVariants.{Deleted}
 use Rattle.abc_heap_store.specs.Buckets.{buckets_of}
 use Rattle.abc_heap_store.specs.Heap.{Heap}
 use Rattle.abc_heap_store.specs.Texts.{text_in, text_of, IsText}
-use Rattle.abc_heap_store.specs.Properties.{with_delete, place_in}
+use Rattle.abc_heap_store.specs.Properties.{with_delete, place_of_property}
 use Rattle.abc_heap_store.specs.View.{objects}
 use Rattle.abc_heap_store.proofs.Calls.{deleted, not_deleted, object_in, changed_by}
 use Rattle.abc_heap_store.proofs.Gaps.{gone_inside}
@@ -51,7 +51,7 @@ returns-in-Some-clause-heap c =
 pub returns-in-None-clause-heap : goal.returns-in-None-clause-heap
 returns-in-None-clause-heap c =
     let f = text_of c.args.self.now.strings c.args.self.now in
-    let none : place_in c.args.self.now.strings c.args.self.now c.args.o.0 c.args.name ≡ None = subst (λ (h : Heap). place_in h.strings h c.args.o.0 c.args.name ≡ None) c.self.view_is c.in-None.ensures in
+    let none : place_of_property c.args.self.now.strings c.args.self.now c.args.o.0 c.args.name ≡ None = subst (λ (h : Heap). place_of_property h.strings h c.args.o.0 c.args.name ≡ None) c.self.view_is c.in-None.ensures in
     sym (ap (λ obs. record c.args.self.now { objects = obs }) (not_deleted c.args.self.now.objects c.args.o.0 f (f c.args.name) none))
 
 pub find-requires-clause-name : goal.find-requires-clause-name
@@ -64,7 +64,7 @@ pub find-requires-clause-index : goal.find-requires-clause-index
 find-requires-clause-index c = c.self.invariant.index
 
 pub returns-in-Some-clause-was : goal.returns-in-Some-clause-was
-returns-in-Some-clause-was c = sym (ap is_some (subst (λ (h : Heap). place_in h.strings h c.args.o.0 c.args.name ≡ Some c.in-Some.spot.position) c.self.view_is c.in-Some.ensures.is))
+returns-in-Some-clause-was c = sym (ap is_some (subst (λ (h : Heap). place_of_property h.strings h c.args.o.0 c.args.name ≡ Some c.in-Some.spot.position) c.self.view_is c.in-Some.ensures.is))
 
 pub returns-in-None-clause-was : goal.returns-in-None-clause-was
-returns-in-None-clause-was c = sym (ap is_some (subst (λ (h : Heap). place_in h.strings h c.args.o.0 c.args.name ≡ None) c.self.view_is c.in-None.ensures))
+returns-in-None-clause-was c = sym (ap is_some (subst (λ (h : Heap). place_of_property h.strings h c.args.o.0 c.args.name ≡ None) c.self.view_is c.in-None.ensures))

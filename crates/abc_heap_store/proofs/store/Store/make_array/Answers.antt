@@ -1,6 +1,6 @@
 use Rattle.std.proofs.Common.{◌∙◌, ap, refl, sym, arith, length, ◌++◌, ◌∷◌, []}
 use Rattle.abc_heap_store.specs.Heap.{Heap}
-use Rattle.abc_heap_store.specs.Changes.{bare}
+use Rattle.abc_heap_store.specs.Changes.{bare_object}
 use Rattle.abc_heap_store.specs.View.{objects}
 use Rattle.abc_heap_store.proofs.Flat.{length_objects}
 use Rattle.abc_heap_store.proofs.Calls.{sizes_are}
@@ -33,5 +33,5 @@ returns c =
     let n = length_objects c.self.inside.cells.items 0 c.self.inside.heads.items in
     record {
       number = c.add_object-o.ensures.number ∙ (sym n ∙ ap (λ (h : Heap). length h.objects) c.self.view_is);
-      heap = object_last _ c.args.self.now _ _ c.self.view_is (c.add_object-o.ensures.objects ∙ ap (λ w. objects c.self.inside.cells.items 0 c.self.inside.heads.items ++ bare c.args.layout c.args.delegate w ∷ []) c.stored.ensures.what);
+      heap = object_last _ c.args.self.now _ _ c.self.view_is (c.add_object-o.ensures.objects ∙ ap (λ w. objects c.self.inside.cells.items 0 c.self.inside.heads.items ++ bare_object c.args.layout c.args.delegate w ∷ []) c.stored.ensures.what);
     }

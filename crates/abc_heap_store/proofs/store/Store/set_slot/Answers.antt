@@ -1,7 +1,7 @@
 use Rattle.std.proofs.Common.{◌≡◌, ◌∙◌, ap, sym, subst, length, ◌<◌}
 use Rattle.abc_heap_values.specs.Filling.{Filling}
 use Rattle.abc_heap_values.specs.declared.cell.Cell.{Cell}
-use Rattle.abc_heap_store.specs.Heap.{Heap, slots_of}
+use Rattle.abc_heap_store.specs.Heap.{Heap, slots_of_object}
 use Rattle.abc_heap_store.specs.Changes.{with_slot, change}
 use Rattle.abc_heap_store.specs.View.{objects}
 use Rattle.abc_heap_store.proofs.Flat.{slots_past}
@@ -16,7 +16,7 @@ pub returns : goal.returns
 returns c =
     let cells = c.self.inside.cells.items in
     let heads = c.self.inside.heads.items in
-    let slot : c.args.k < length (slots_of (objects cells 0 heads) c.args.o.0) = subst (λ (h : Heap). c.args.k < length (slots_of h.objects c.args.o.0)) (sym c.self.view_is) c.requires in
+    let slot : c.args.k < length (slots_of_object (objects cells 0 heads) c.args.o.0) = subst (λ (h : Heap). c.args.k < length (slots_of_object h.objects c.args.o.0)) (sym c.self.view_is) c.requires in
     let e : objects c.hold.new.cells.items 0 heads ≡ change (with_slot c.args.k c.args.v) c.args.o.0 (objects cells 0 heads) =
     ap (λ (f : Filling Cell). objects f.items 0 heads) c.hold.ensures
     ∙ slot_written cells c.slot_place-place.result c.args.o.0 c.args.k c.args.v heads c.self.invariant.heads (slots_past cells 0 c.args.o.0 c.args.k heads slot) c.slot_place-place.ensures (inside _ _ _ _ _ c.slot_place-place.ensures) in

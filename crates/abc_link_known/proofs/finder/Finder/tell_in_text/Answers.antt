@@ -1,12 +1,12 @@
 use Rattle.std.proofs.Common.{◌≡◌, ◌∙◌, ap, sym}
-use Rattle.abc_link_names.specs.Numbers.{classes_of, number}
+use Rattle.abc_link_names.specs.Numbers.{classes_of, number_of_text}
 use Rattle.abc_link_known.proofs.finder.Finder.tell_in_text.Goals as goal
 
 pub meaning_in_text-named-requires : goal.meaning_in_text-named-requires
 meaning_in_text-named-requires c =
     let names = c.args.self.now.names in
     let numbers = names.tables.now.numbers in
-    let same : c.args.text ≡ number numbers c.in-Some.plain.string = cc in
+    let same : c.args.text ≡ number_of_text numbers c.in-Some.plain.string = cc in
     record {
       firsts = c.requires.firsts;
       places = c.requires.places;

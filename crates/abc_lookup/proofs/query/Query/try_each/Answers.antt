@@ -4,7 +4,7 @@ use Rattle.std.proofs.lemmas.List.{drop_all}
 use Rattle.abc_objects.specs.Results.{or_next}
 use Rattle.abc_objects.proofs.Joins.{hit_first, or_missing}
 use Rattle.abc_lookup.specs.Slots.{own_at}
-use Rattle.abc_lookup.specs.Steps.{gives}
+use Rattle.abc_lookup.specs.Steps.{gives_found}
 use Rattle.abc_lookup.proofs.TextFirst.{place_next}
 use Rattle.abc_lookup.proofs.query.Query.try_each.Goals as goal
 
@@ -23,5 +23,5 @@ pub returns-after-loop-place : goal.returns-after-loop-place
 returns-after-loop-place c =
     let q = c.args.self.now in
     sym (or_missing c.loop-place.so_far)
-    ∙ ap (λ (ps : List ℕ). or_next c.loop-place.so_far (gives q.l.now q.name q.skip c.args.x.0 c.args.held (flat_map (own_at q.l.now c.args.x.0) ps))) (sym (drop_all c.loop-place.place-index c.args.places.now c.loop-place-test.false))
+    ∙ ap (λ (ps : List ℕ). or_next c.loop-place.so_far (gives_found q.l.now q.name q.skip c.args.x.0 c.args.held (flat_map (own_at q.l.now c.args.x.0) ps))) (sym (drop_all c.loop-place.place-index c.args.places.now c.loop-place-test.false))
     ∙ c.loop-place.invariant

@@ -1,7 +1,7 @@
 use Rattle.std.proofs.Common.{◌≡◌, ◌∙◌, ap, is_some, sym, subst}
 use Rattle.abc_heap_store.specs.Heap.{Heap}
 use Rattle.abc_heap_store.specs.Texts.{IsText, text_of}
-use Rattle.abc_heap_store.specs.Properties.{with_delete, place_in}
+use Rattle.abc_heap_store.specs.Properties.{with_delete, place_of_property}
 use Rattle.abc_heap_store.specs.Changes.{with_object}
 use Rattle.abc_objects.specs.Stands.{StandsOver}
 use Rattle.abc_objects.proofs.Kept.{over_changed}
@@ -18,7 +18,7 @@ pub returns-clause-was : goal.returns-clause-was
 returns-clause-was c =
     let h = c.self.inside.store in
     let s = subst (StandsOver c.args.l.now) (sym c.self.view_is) c.requires.over in
-    c.delete_property.ensures.was ∙ (ap (λ ps. is_some (place_in ps h c.args.o.0 c.args.name)) s.strings ∙ ap (λ (y : Heap). is_some (place_in c.args.l.now.file.strings y c.args.o.0 c.args.name)) c.self.view_is)
+    c.delete_property.ensures.was ∙ (ap (λ ps. is_some (place_of_property ps h c.args.o.0 c.args.name)) s.strings ∙ ap (λ (y : Heap). is_some (place_of_property c.args.l.now.file.strings y c.args.o.0 c.args.name)) c.self.view_is)
 
 pub returns-clause-heap : goal.returns-clause-heap
 returns-clause-heap c =

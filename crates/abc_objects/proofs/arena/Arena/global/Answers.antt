@@ -1,7 +1,7 @@
 use Rattle.std.proofs.Common.{◌≡◌, ℕ, ◌+◌, ap, arith, length, subst}
 use Rattle.abc_heap_store.specs.Heap.{Heap, obj_id}
 use Rattle.abc_heap_store.specs.declared.records.Limits.{Limits}
-use Rattle.abc_objects.specs.Opening.{global_number, global_object}
+use Rattle.abc_objects.specs.Opening.{opening_global_number, global_object}
 use Rattle.abc_objects.specs.Stands.{IsMadeAs}
 use Rattle.abc_objects.proofs.Opened.{global_made}
 use Rattle.abc_objects.proofs.arena.Arena.global.Goals as goal
@@ -22,5 +22,5 @@ returns-clause-number c = omega (arith, c.formulas.ensures, ap (λ (h : Heap). l
 
 pub returns-clause-is : goal.returns-clause-is
 returns-clause-is c = λ l s b.
-    let e : global_number (length c.args.self.now.formulas) c.args.script ≡ 30 + c.formulas.result + c.args.script = omega (arith, c.formulas.ensures, ap (λ (h : Heap). length h.formulas) c.self.view_is) in
+    let e : opening_global_number (length c.args.self.now.formulas) c.args.script ≡ 30 + c.formulas.result + c.args.script = omega (arith, c.formulas.ensures, ap (λ (h : Heap). length h.formulas) c.self.view_is) in
     subst (λ (n : ℕ). IsMadeAs c.args.self.now (obj_id n) (global_object l c.args.script)) e (global_made l c.args.self.now c.args.script s b)

@@ -1,7 +1,7 @@
 use Rattle.std.proofs.Common.{◌<◌, ◌∙◌, ap, sym, subst, length, None}
 use Rattle.abc_heap_store.specs.Heap.{Heap}
 use Rattle.abc_heap_store.specs.Changes.{with_made, with_scopes}
-use Rattle.abc_heap_store.specs.Scopes.{top}
+use Rattle.abc_heap_store.specs.Scopes.{top_of_scopes}
 use Rattle.abc_heap_store.specs.declared.records.What.TheVariants.{Closure}
 use Rattle.abc_link_names.specs.declared.part.LayoutId.{LayoutId}
 use Rattle.abc_objects.specs.Starts.{start_values}
@@ -24,7 +24,7 @@ returns-clause-over c =
     let d = subst (λ (y : Heap). IsObjectOrNone y c.args.delegate) (sym c.self.view_is) c.requires.delegate in
     let sc = subst (λ (y : Heap). IsScope y c.args.saved) (sym c.self.view_is) c.requires.saved in
     let es = subst (λ (y : Heap). AreEntries y c.args.scopes.now) (sym c.self.view_is) c.requires.scopes in
-    let what = Closure c.args.method c.args.home (top (length h.scopes) c.args.saved c.args.scopes.now) None in
+    let what = Closure c.args.method c.args.home (top_of_scopes (length h.scopes) c.args.saved c.args.scopes.now) None in
     let mid = with_scopes c.args.saved c.args.scopes.now h in
     let made = over_function l h c.args.method c.args.home c.args.delegate c.args.saved c.args.scopes.now s c.requires.method c.requires.home d sc es in
     let at = subst (λ (x : LayoutId). StandsOver l (with_made (start_values l x.0) x.0 c.args.delegate what mid)) (sym c.layout_of-layout.ensures) made in

@@ -1,5 +1,5 @@
 use Rattle.std.proofs.Common.{◌∙◌, ap, sym}
-use Rattle.abc_run_finish.specs.Handling.{Held, catches as catches_so}
+use Rattle.abc_run_finish.specs.Handling.{Held, handler_catches as catches_so}
 use Rattle.abc_run_finish.proofs.Unwound.{catches_as}
 use Rattle.abc_run_state.proofs.Tested.{type_tested}
 use Rattle.abc_run_finish.proofs.handlers.HandlersFor.catches.Goals as goal

@@ -1,6 +1,6 @@
 use Rattle.std.proofs.Common.{◌≡◌, drop}
 use Rattle.std.specs.List.{find}
-use Rattle.abc_run_finish.specs.Handling.{catches as catches_so}
+use Rattle.abc_run_finish.specs.Handling.{handler_catches as catches_so}
 use Rattle.abc_run_finish.proofs.handlers.HandlersFor.first.Given as goal
 
 abbrev pub invariant-loop-handler : goal.invariant-loop-handler

@@ -2,11 +2,11 @@
 use Rattle.std.proofs.Common.{◌≡◌, ◌+◌, ◌<◌, ◌^◌, Bool, ◌||◌, List, length, drop, Some, refl, sym, ap, subst, ◌∙◌, arith}
 use Rattle.std.specs.declared.option.Option.{Option}
 use Rattle.abc_text_tokens.proofs.Counted.{comes_raws, fewer, stay_numbered}
-use Rattle.abc_text_tokens.specs.Ahead.{Follows}
+use Rattle.abc_text_tokens.specs.Ahead.{FollowsLine}
 use Rattle.abc_text_tokens.specs.Cursor.{AreNumbered, most_lines, raws_after}
 use Rattle.abc_text_tokens.specs.declared.line.Line.{Line}
 use Rattle.abc_text_reader.specs.declared.error.AsmError.{AsmError}
-use Rattle.abc_text_reader.specs.Reading.{IsBroken, rows_left}
+use Rattle.abc_text_reader.specs.Reading.{IsLineBroken, rows_left}
 use Rattle.abc_text_reader.proofs.Taking.{shorter, some_next, still_reads, taken_broken, taken_is, taken_row}
 use Rattle.abc_text_reader.proofs.reader.Reader.take.Goals as goal
 use Rattle.abc_text_reader.proofs.reader.Reader.take.Goals.{else-line, then-line}
@@ -16,11 +16,11 @@ unreachable-requires c = some_next c.args.self.now c.in_default.is c.requires.so
 
 -- the lines that were met ahead follow the one that is taken
 pub look_ahead-requires-clause-ahead : goal.look_ahead-requires-clause-ahead
-look_ahead-requires-clause-ahead c = subst (λ (o : Option Line). Follows o (drop c.args.self.now.place c.args.self.now.ahead.items)) c.in-Some.is c.requires.is.ahead
+look_ahead-requires-clause-ahead c = subst (λ (o : Option Line). FollowsLine o (drop c.args.self.now.place c.args.self.now.ahead.items)) c.in-Some.is c.requires.is.ahead
 
 -- the line behind the one that is taken
 pub line_after-place-requires-clause-ahead : goal.line_after-place-requires-clause-ahead
-line_after-place-requires-clause-ahead c = subst (λ (lines : List Line). Follows (Some c.in-Some.line) (drop c.in_ok-behind.behind lines)) (sym c.as_slice.ensures.value) c.in_ok-behind.ensures
+line_after-place-requires-clause-ahead c = subst (λ (lines : List Line). FollowsLine (Some c.in-Some.line) (drop c.in_ok-behind.behind lines)) (sym c.as_slice.ensures.value) c.in_ok-behind.ensures
 
 pub note_line-requires-clause-next : goal.note_line-requires-clause-next
 note_line-requires-clause-next c = let line = c.in-Some.line in comes_raws (raws_after line) (line.number + 1) (length line.rest.now) c.line_after-place.result.0 c.line_after-place.ensures.comes
@@ -38,7 +38,7 @@ note_line-requires-clause-few c =
     omega (arith, few, short)
 
 pub note_line-requires-clause-ahead : goal.note_line-requires-clause-ahead
-note_line-requires-clause-ahead c = subst (λ (lines : List Line). Follows c.line_after-place.result.0 (drop c.line_after-place.result.1 lines)) c.as_slice.ensures.value c.line_after-place.ensures.ahead
+note_line-requires-clause-ahead c = subst (λ (lines : List Line). FollowsLine c.line_after-place.result.0 (drop c.line_after-place.result.1 lines)) c.as_slice.ensures.value c.line_after-place.ensures.ahead
 
 pub returns-then-broken-clause-broken : goal.returns-then-broken-clause-broken
 returns-then-broken-clause-broken c =
@@ -48,7 +48,7 @@ returns-then-broken-clause-broken c =
       | then-line w ↦ w.broken-is ∙ w.if-line.true ∙ sym (ap (λ (b : Bool). b || unclosed) w.if-line.true)
       | else-line w ↦ w.broken-is ∙ sym (ap (λ (b : Bool). b || unclosed) w.if-line.false)
     ] in
-    subst (λ (e : AsmError). IsBroken e (rows_left c.args.self.now)) (sym c.refused.ensures)
+    subst (λ (e : AsmError). IsLineBroken e (rows_left c.args.self.now)) (sym c.refused.ensures)
     (taken_broken c.args.self.now _ c.note_line.new.self line c.in_ok-repeated.repeated unclosed c.if-line.broken (line.number + 1) (length line.rest.now) c.in_ok-repeated.ensures c.in-Some.is refl refl refl c.in_ok-unclosed.ensures c.line_after-place.ensures.comes is c.if-broken.true)
 
 pub returns-clause-goes : goal.returns-clause-goes
