@@ -186,7 +186,7 @@ slot_of_any n id = trait_with n (traits.Slot id 0 None false)
 -- of a method, with so many values, locals and scopes at most
 abbrev pub body_with_code : (method values locals scopes : ℕ) → List Instr → Body
 body_with_code m values locals scopes code = record {
-  method_with = m;
+  method = m;
   max_stack = values;
   local_count = locals;
   init_scope = 0;
