@@ -129,7 +129,7 @@ begins : too_small (first_world making ample).heap ≡ None
 unfolding way
 begins = refl
 
-ends : meaning making ample 31 ≡ Ran (text_line (codes "5 8 1 object")) Done
+ends : meaning making ample 32 ≡ Ran (text_line (codes "5 8 1 object")) Done
 unfolding meaning acts act_of table_of_rows row_at way answer_of_search declared_found found_on found_in_scopes digits modulo_unsigned int_wrap
 ends = refl
 

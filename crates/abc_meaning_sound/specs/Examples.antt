@@ -66,8 +66,8 @@ pub record VerifiedExamples : Type 0 where
 pub record WorkshopExamples : Type 0 where
   pub verified : IsVerifiedSetting making
   pub begins : too_small (first_world making ample).heap ≡ None
-  pub runs : meaning making ample 31 ≡ Ran (text_line (codes "5 8 1 object")) Done
+  pub runs : meaning making ample 32 ≡ Ran (text_line (codes "5 8 1 object")) Done
   -- how the init waits: for the setter, for the getter v, and for the class that K gives
-  pub drops : wait_after making 5 ≡ Some waits.Drop
-  pub pushes : wait_after making 12 ≡ Some waits.Push
-  pub makes_then : wait_after making 26 ≡ Some (waits.New 0)
+  pub drops : wait_after making 6 ≡ Some waits.Drop
+  pub pushes : wait_after making 13 ≡ Some waits.Push
+  pub makes_then : wait_after making 27 ≡ Some (waits.New 0)
