@@ -123,7 +123,7 @@ module _ (l : LinkedFile) (b : Begun) where
             is = ap (machine new) same ∙ sym next;
             goes = meant_by left s x y (Steps q) a g.goes.goes ∙ ap (replies_for p left) (sym next);
             counts = counted_on left s x y q a g.goes.goes;
-            texts = texts_on b.first.world.heap s.arena new.arena a.texts (went_texts l (outer l b (suc left)) s new y z a.can g.goes);
+            texts = texts_on b.first.world.heap s.arena new.arena a.texts (went_texts l (outer l b (suc left)) s a.can new y z g.goes);
             sink = λ some. g.goes.sink (subst IsSome (sym (a.sink some)) (append_some x out.wrote some)) ∙ ap (λ (o : Option (List ℕ)). append_known o g.goes.bytes) (a.sink some) ∙ append_more x out.wrote g.goes.bytes ∙ ap (λ (o : Outer). append_known x o.wrote) (sym same);
             can = subst (λ (o : Outer). IsReached l o new) (sym same) g.reached;
           }
