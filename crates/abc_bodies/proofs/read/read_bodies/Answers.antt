@@ -18,4 +18,4 @@ returns-clause-places g c = places_kept c.read_bodies_keeping.result c.read_bodi
 pub returns-clause-answers : goal.returns-clause-answers
 returns-clause-answers g c =
     answers (bodies c.args.abc.now) (bodies-exact c.args.abc.now) c.args.w.now c.read_bodies_keeping.new.w (g.S.Source.left c.args.source.now) (g.S.Source.left c.read_bodies_keeping.new.source)
-    (with_places c.read_bodies_keeping.result c.read_bodies_keeping.new.abc) (omega (arith, c.place-_place.ensures.is, c.place-_place.ensures.bound)) (returns-clause-value g c).0
+    (with_places c.read_bodies_keeping.result c.read_bodies_keeping.new.abc) (omega (arith, c.place-place.ensures.is, c.place-place.ensures.bound)) (returns-clause-value g c).0

@@ -14,3 +14,9 @@ returns-in_err-bytes-clause-stops g c =
     let p = err_from_is_err_and c.from_residual.result c.from_residual.ensures.1 in
     rw (p.1, p.2) (read_stops (OfFile Canon) (alone Canon) (on_file Canon) (stream g.S.Source.left g.S.Source.faults c.args.source.now c.canonical.new.source) c.in_err-bytes.field-0.0 c.in_err-bytes.ensures.fault
     (λ e. c.in_err-bytes.ensures.cause cc))
+
+pub returns-clause-taken : goal.returns-clause-taken
+returns-clause-taken g c = c.in_ok-bytes.ensures.taken
+
+pub returns-in_err-bytes-clause-taken : goal.returns-in_err-bytes-clause-taken
+returns-in_err-bytes-clause-taken g c = c.in_err-bytes.ensures.taken

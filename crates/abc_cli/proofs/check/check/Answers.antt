@@ -19,3 +19,12 @@ pub returns-clause-gives : goal.returns-clause-gives
 returns-clause-gives g c =
     verified_gives (stream g.S.Source.left g.S.Source.faults c.args.source.now c.read_verified.new.source) c.in_ok-verified.verified c.in_ok-verified.field-0-1 c.in_ok-bytes.bytes.items c.body_count-count.result c.in_ok-verified.ensures.ok
     c.in_ok-verified.ensures.end c.in_ok-bytes.ensures c.body_count-count.ensures
+
+pub returns-clause-taken : goal.returns-clause-taken
+returns-clause-taken g c = c.in_ok-verified.ensures.taken
+
+pub returns-in_err-verified-clause-taken : goal.returns-in_err-verified-clause-taken
+returns-in_err-verified-clause-taken g c = c.in_err-verified.ensures.taken
+
+pub returns-in_err-bytes-clause-taken : goal.returns-in_err-bytes-clause-taken
+returns-in_err-bytes-clause-taken g c = c.in_ok-verified.ensures.taken

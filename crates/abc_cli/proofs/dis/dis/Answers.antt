@@ -14,3 +14,9 @@ returns-in_err-text-clause-stops g c =
     let p = err_from_is_err_and c.from_residual.result c.from_residual.ensures.1 in
     rw (p.1, p.2) (read_stops (OfFile Dis) (alone Dis) (on_file Dis) (stream g.S.Source.left g.S.Source.faults c.args.source.now c.listing_of.new.source) c.in_err-text.field-0.0 c.in_err-text.ensures.fault
     (λ e. c.in_err-text.ensures.cause cc))
+
+pub returns-clause-taken : goal.returns-clause-taken
+returns-clause-taken g c = c.in_ok-text.ensures.taken
+
+pub returns-in_err-text-clause-taken : goal.returns-in_err-text-clause-taken
+returns-in_err-text-clause-taken g c = c.in_err-text.ensures.taken

@@ -20,3 +20,9 @@ pub returns-in-Err-clause-used_up : goal.returns-in-Err-clause-used_up
 returns-in-Err-clause-used_up g c =
     unreplayed_unread (g.H.Host.formulas c.args.host.now) (stream g.S.Source.left g.S.Source.faults c.args.source.now c.replay.new.source) (stream g.K.Sink.written g.K.Sink.faults c.args.out.now c.args.out.now)
     (stream g.E.Sink.written g.E.Sink.faults c.args.err.now c.give_unreplayed.new.err) c.give_unreplayed.result c.in-Err.e c.give_unreplayed.ensures
+
+pub returns-in-Ok-clause-taken : goal.returns-in-Ok-clause-taken
+returns-in-Ok-clause-taken g c = c.in-Ok.ensures.taken
+
+pub returns-in-Err-clause-taken : goal.returns-in-Err-clause-taken
+returns-in-Err-clause-taken g c = c.in-Err.ensures.taken

@@ -36,3 +36,9 @@ returns-in-Err-clause-used_up g c =
 
 pub returns-in-Err-clause-quiet : goal.returns-in-Err-clause-quiet
 returns-in-Err-clause-quiet g c = λ d. absurd (not_done (stream g.E.Sink.written g.E.Sink.faults c.args.err.now c.give_stop.new.err) c.from.result c.give_stop.result c.give_stop.ensures d)
+
+pub returns-in-Ok-clause-taken : goal.returns-in-Ok-clause-taken
+returns-in-Ok-clause-taken g c = c.in-Ok.ensures.taken
+
+pub returns-in-Err-clause-taken : goal.returns-in-Err-clause-taken
+returns-in-Err-clause-taken g c = c.in-Err.ensures.taken

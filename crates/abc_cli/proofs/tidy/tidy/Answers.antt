@@ -18,3 +18,12 @@ pub returns-in_err-bytes-clause-stops : goal.returns-in_err-bytes-clause-stops
 returns-in_err-bytes-clause-stops g c =
     let p = err_from_is_err_and c.from_residual-in_err-bytes.result c.from_residual-in_err-bytes.ensures.1 in
     rw (p.1, p.2) (alone_stops_at Tidy (stream g.S.Source.left g.S.Source.faults c.args.source.now c.read_alone.new.source) c.in_ok-abc.abc c.in_err-bytes.field-0.0 c.in_ok-abc.ensures.file c.in_err-bytes.ensures.stops)
+
+pub returns-clause-taken : goal.returns-clause-taken
+returns-clause-taken g c = c.in_ok-abc.ensures.taken
+
+pub returns-in_err-abc-clause-taken : goal.returns-in_err-abc-clause-taken
+returns-in_err-abc-clause-taken g c = c.in_err-abc.ensures.taken
+
+pub returns-in_err-bytes-clause-taken : goal.returns-in_err-bytes-clause-taken
+returns-in_err-bytes-clause-taken g c = c.in_ok-abc.ensures.taken

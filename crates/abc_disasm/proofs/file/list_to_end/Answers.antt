@@ -1,5 +1,6 @@
 use Rattle.std.proofs.lemmas.Result.{err_from_is_err_and}
 use Rattle.abc_text_lines.specs.Listing.{listing}
+use Rattle.abc_varint.specs.Reads.{known_input}
 use Rattle.abc_file.proofs.Ending.{used_up_first}
 use Rattle.abc_file.proofs.Passing.{all_passed, all_refused_too, more_follows}
 use Rattle.abc_disasm.proofs.file.list_to_end.Goals as goal
@@ -26,10 +27,10 @@ returns-clause-end g c =
     c.in_ok-read_nothing_more.ensures.end
 
 pub returns-clause-input : goal.returns-clause-input
-returns-clause-input g c = (c.in_ok-list_file.ensures.0.4 _ c.in_ok-read_nothing_more.ensures.input).0
+returns-clause-input g c = (c.in_ok-list_file.ensures.0.4 (known_input c.read_nothing_more.new.w (g.S.Source.left c.read_nothing_more.new.source)) c.in_ok-read_nothing_more.ensures.input).0
 
 pub returns-in_err-list_file-clause-input : goal.returns-in_err-list_file-clause-input
 returns-in_err-list_file-clause-input g c = (c.in_err-list_file.ensures.0 c.requires.window.kept).0
 
 pub returns-in_err-read_nothing_more-clause-input : goal.returns-in_err-read_nothing_more-clause-input
-returns-in_err-read_nothing_more-clause-input g c = (c.in_ok-list_file.ensures.0.4 _ c.in_err-read_nothing_more.ensures.input).0
+returns-in_err-read_nothing_more-clause-input g c = (c.in_ok-list_file.ensures.0.4 (known_input c.read_nothing_more.new.w (g.S.Source.left c.read_nothing_more.new.source)) c.in_err-read_nothing_more.ensures.input).0

@@ -4,7 +4,7 @@ use Rattle.abc_file.proofs.reading.read_keeping.Goals as goal
 pub returns-clause-taken : goal.returns-clause-taken
 returns-clause-taken g c =
     let e = c.in_ok-w.ensures in
-    taken_little c.in_ok-w.w c.read_to_end-file.new.w _ _ (record { place = e.place; taken = e.taken; kept = e.kept; end = e.end }) c.stays_small.ensures.taken c.read_to_end-file.ensures.input
+    taken_little c.in_ok-w.w c.read_to_end-file.new.w (g.S.Source.left c.args.source.now) (g.S.Source.left c.read_to_end-file.new.source) (record { place = e.place; taken = e.taken; kept = e.kept; end = e.end }) c.stays_small.ensures.taken c.read_to_end-file.ensures.input
 
 pub returns-in_err-w-clause-taken : goal.returns-in_err-w-clause-taken
-returns-in_err-w-clause-taken g c = none_taken _
+returns-in_err-w-clause-taken g c = none_taken (g.S.Source.left c.args.source.now)

@@ -14,3 +14,12 @@ returns-in_err-verified-clause-refused g c =
 
 pub returns-clause-ok : goal.returns-clause-ok
 returns-clause-ok g c = read_verified_is (g.S.Source.left c.args.source.now) c.in_ok-abc.abc c.in_ok-abc.places c.in_ok-verified.verified c.in_ok-abc.ensures.answers c.in_ok-verified.ensures.ok
+
+pub returns-in_err-abc-clause-taken : goal.returns-in_err-abc-clause-taken
+returns-in_err-abc-clause-taken g c = c.in_err-abc.ensures.taken
+
+pub returns-in_err-verified-clause-taken : goal.returns-in_err-verified-clause-taken
+returns-in_err-verified-clause-taken g c = c.in_ok-abc.ensures.taken
+
+pub returns-clause-taken : goal.returns-clause-taken
+returns-clause-taken g c = c.in_ok-abc.ensures.taken
