@@ -171,7 +171,7 @@ impl Query<'_> {
     fn find_owner(&self, places: &[u32]) -> Option<Place>
         requires over { StandsOver self.now.l.now self.now.a.now }
         requires nothing { self.now.skip ≡ skips.Nothing }
-        requires places { Some scope_places.now ≡ script_traits self.now.l.now.file self.now.text.now }
+        requires places { Some places.now ≡ script_traits self.now.l.now.file self.now.text.now }
         ensures inside { IsScriptPlace self.now.l.now result }
         ensures first { place_if_any result
             ≡ find (has self.now.l.now self.now.a.now self.now.name)
