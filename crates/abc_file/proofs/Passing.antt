@@ -26,15 +26,14 @@ use Rattle.abc_file.proofs.Ending.{begun, of_any, of_input, part_refused, trails
 
 -- ---- the bytes of all parts
 
-appended : (old a b c d b1 b2 b3 b4 : List ℕ) → b1 ≡ old ++ a → b2 ≡ b1 ++ b → b3 ≡ b2 ++ c → b4 ≡ b3 ++ d → b4 ≡ old ++ (a ++ (b ++ (c ++ d)))
+appended : (old a b c d b1 b2 b3 b4 : List ℕ) → b1 ≡ old ++ a → b2 ≡ b1 ++ b → b3 ≡ b2 ++ c → b4 ≡ b3 ++ d → b4 ≡ old ++ (a ++ b ++ c ++ d)
 appended old a b c d b1 b2 b3 b4 e1 e2 e3 e4 = rw (e4, e3, e2, e1) (simp append_assoc)
 
 pub joined : (v full : Abc) (bs : List Body) (old b1 b2 b3 b4 : List ℕ) → pools_bytes full ≡ pools_bytes v → b1 ≡ old ++ version_bytes → b2 ≡ b1 ++ pools_bytes v → b3 ≡ b2 ++ definitions_bytes full → b4 ≡ b3 ++ counted_bytes body_bytes bs
     → b4 ≡ old ++ file_bytes (record full { bodies = bs })
 unfolding file_bytes pools_bytes definitions_bytes bodies_bytes
 joined v full bs old b1 b2 b3 b4 stay e1 e2 e3 e4 =
-    let tail = definitions_bytes full ++ counted_bytes body_bytes bs in
-    let same : version_bytes ++ (pools_bytes v ++ tail) ≡ file_bytes (record full { bodies = bs }) = ap (λ (p : List ℕ). version_bytes ++ (p ++ tail)) (sym stay) in
+    let same : version_bytes ++ pools_bytes v ++ definitions_bytes full ++ counted_bytes body_bytes bs ≡ file_bytes (record full { bodies = bs }) = ap (λ (p : List ℕ). version_bytes ++ p ++ definitions_bytes full ++ counted_bytes body_bytes bs) (sym stay) in
     appended old version_bytes (pools_bytes v) (definitions_bytes full) (counted_bytes body_bytes bs) b1 b2 b3 b4 e1 e2 e3 e4 ∙ ap (λ (t : List ℕ). old ++ t) same
 
 same_pools : (v : Abc) (d : Definitions) → pools_bytes (with_later_tables v d) ≡ pools_bytes v
