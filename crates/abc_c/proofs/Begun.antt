@@ -22,7 +22,7 @@ use Rattle.abc_c.specs.declared.opening.Unopened.TheVariants as unopened
 pub opened_for : {K : Type 0} (session : K → Opened) (file : List ℕ) (bounds : Bounds) (l : LinkedFile) (r : Result K Unopened) → IsReadIn file l
     → MatchResult r (λ kept. IsOpened l builtin_formulas (limits_of_bounds bounds) (session kept)) (IsUnopened l bounds) → MatchResult r (λ kept. IsOpenedFor file bounds (session kept)) (IsUnopenedFor file bounds)
 opened_for session file bounds l (Ok kept) read opened = record { linked = l; starts = read.starts; verified = read.verified; opened = opened }
-opened_for session file bounds l (Err (unopened.Refused e)) read no = absurd no
+opened_for session file bounds l (Err (unopened.Refused e)) read never = absurd never
 opened_for session file bounds l (Err unopened.TooSmall) read small = record { linked = l; starts = read.starts; verified = read.verified; which = small.0; small = small.1 }
 opened_for session file bounds l (Err unopened.NoMemory) read any = tt
 

@@ -22,7 +22,7 @@ pub returns-in-Err-TooSmall-clause-came : goal.returns-in-Err-TooSmall-clause-ca
 returns-in-Err-TooSmall-clause-came c =
     let told = c.to.ensures in
     came_limited (use_of c.args.file.now c.args.bounds.now c.args.names.now c.args.calls.now) c.args.answers.now c.to.result.status c.to.result.refusal c.to.result.answered c.args.out.now.taken
-    told.0 told.1 told.2 c.requires c.in-Err-TooSmall.ensures
+    told.0 told.1 told.2 c.requires (rw c.in-Err-TooSmall.field-0-is at c.in-Err-TooSmall.ensures)
 
 pub returns-in-Err-NoMemory-clause-came : goal.returns-in-Err-NoMemory-clause-came
 returns-in-Err-NoMemory-clause-came c =
