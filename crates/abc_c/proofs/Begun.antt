@@ -1,40 +1,30 @@
 -- How a file is opened, and why it isn't.
-use Rattle.std.proofs.Common.{◌≡◌, ◌≢◌, ℕ, List, refl, sym, ap, ◌∙◌, subst, arith}
-use Rattle.std.specs.Prelude.{Some}
+use Rattle.std.proofs.Common.{◌≡◌, ◌≢◌, ℕ, List, refl, arith}
+use Rattle.std.specs.Prelude.{MatchResult, Ok, Err}
+use Rattle.std.specs.declared.result.Result.{Result}
 use Rattle.abc_base.specs.Faults.{Rose}
 use Rattle.abc_base.specs.Hosts.{builtin_formulas}
-use Rattle.abc_heap_store.specs.declared.records.Limit.{Limit}
-use Rattle.abc_heap_store.specs.declared.records.Limits.{Limits}
 use Rattle.abc_link_names.specs.Linked.{LinkedFile}
 use Rattle.abc_machine.specs.Machines.{IsOpened, Opened}
-use Rattle.abc_meaning.specs.Meaning.{first_world, too_small}
-use Rattle.abc_meaning.specs.Openings.{setting}
 use Rattle.abc_verify.specs.FileRefusing.{IsFileRefused, IsFileRefusedBy}
 use Rattle.abc_verify.specs.declared.verified_error.VerifiedError.{VerifiedError}
 use Rattle.abc_verify.specs.declared.verified_error.VerifiedError.TheVariants as errors
 use Rattle.abc_c.specs.Crossing.{limits_of_bounds}
-use Rattle.abc_c.specs.Opening.{IsReadIn, IsUnread}
-use Rattle.abc_c.specs.Outcome.{IsOpenedFor, IsTooSmall}
+use Rattle.abc_c.specs.Opening.{IsReadIn, IsUnopened, IsUnopenedFor, IsUnread}
+use Rattle.abc_c.specs.Outcome.{IsOpenedFor}
 use Rattle.abc_c.specs.declared.crossing.Bounds.{Bounds}
+use Rattle.abc_c.specs.declared.opening.Unopened.{Unopened}
+use Rattle.abc_c.specs.declared.opening.Unopened.TheVariants as unopened
 
 -- ---- a session
 
-pub begun_of : (file : List ℕ) (bounds : Bounds) (l : LinkedFile) (limits : Limits) (m : Opened) → limits ≡ limits_of_bounds bounds → IsReadIn file l → IsOpened l builtin_formulas limits m → IsOpenedFor file bounds m
-begun_of file bounds l limits m is read opened = record {
-  linked = l;
-  starts = read.starts;
-  verified = read.verified;
-  opened = subst (λ (x : Limits). IsOpened l builtin_formulas x m) is opened;
-}
-
-pub small_of : (file : List ℕ) (bounds : Bounds) (l : LinkedFile) (limits : Limits) (which : Limit) → limits ≡ limits_of_bounds bounds → IsReadIn file l → too_small (first_world (setting l builtin_formulas) limits).heap ≡ Some which → IsTooSmall file bounds
-small_of file bounds l limits which is read small = record {
-  linked = l;
-  starts = read.starts;
-  verified = read.verified;
-  which = which;
-  small = subst (λ (x : Limits). too_small (first_world (setting l builtin_formulas) x).heap ≡ Some which) is small;
-}
+-- a session of the verified file that some bytes are, or why there is none
+pub opened_for : {K : Type 0} (session : K → Opened) (file : List ℕ) (bounds : Bounds) (l : LinkedFile) (r : Result K Unopened) → IsReadIn file l
+    → MatchResult r (λ kept. IsOpened l builtin_formulas (limits_of_bounds bounds) (session kept)) (IsUnopened l bounds) → MatchResult r (λ kept. IsOpenedFor file bounds (session kept)) (IsUnopenedFor file bounds)
+opened_for session file bounds l (Ok kept) read opened = record { linked = l; starts = read.starts; verified = read.verified; opened = opened }
+opened_for session file bounds l (Err (unopened.Refused e)) read never = absurd never
+opened_for session file bounds l (Err unopened.TooSmall) read small = record { linked = l; starts = read.starts; verified = read.verified; which = small.0; small = small.1 }
+opened_for session file bounds l (Err unopened.NoMemory) read any = tt
 
 -- ---- a file
 

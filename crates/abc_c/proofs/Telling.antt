@@ -47,7 +47,7 @@ some_front (Err x) before now piece front = front
 
 -- a test has one answer
 pub not_both : (r : Bool) → r ≡ true → r ≡ false → ⊥
-not_both r yes no = let two : true ≡ false = sym yes ∙ no in cc
+not_both r holds fails = let two : true ≡ false = sym holds ∙ fails in cc
 
 pub done_as : (old new : Opened) (method : ℕ) (c : Call) (args : List ℤ) (before mid now : List ℕ) (reply : SessionReply) (a : Answer) → args ≡ numbers_of c
     → AnswersIn old new (record { method = method; args = args; fuel = c.fuel; formulas = builtin_formulas }) (Some before) (Some mid) reply → Tells new reply mid now a → IsDone old new method c before now a

@@ -10,7 +10,7 @@ use Rattle.abc_machine.specs.declared.ends.End.TheVariants.{Done}
 use Rattle.abc_verify.specs.FileRefusing.{IsFileRefused}
 use Rattle.abc_verify.specs.declared.verified_error.VerifiedError.{VerifiedError}
 use Rattle.abc_c.specs.Answered.{AreAnswered, end_status}
-use Rattle.abc_c.specs.Outcome.{ComesOfUse, IsOpenedFor, IsHanded, IsStarted, IsTooSmall, IsUsed, Use, reason_of, refusal_of, no_refusal}
+use Rattle.abc_c.specs.Outcome.{ComesOfUse, IsStarted, IsTooSmall, IsUsed, RunsAndAnswers, Use, reason_of, refusal_of, no_refusal}
 use Rattle.abc_c.specs.Outcome as came
 use Rattle.abc_c.specs.declared.crossing.Answer.{Answer}
 use Rattle.abc_c.specs.declared.crossing.Call.{Call}
@@ -18,41 +18,32 @@ use Rattle.abc_c.specs.declared.crossing.Refusal.{Refusal}
 
 -- ---- the run of the script, and the calls after it
 
-module _ (u : Use) (fuel : ℕ) (names : List ℕ) (calls : List Call) (opened started : Opened) (before wrote : List ℕ) (end : End) (s : Status)
-    (handed : IsHanded u fuel names calls) (begun : IsOpenedFor u.file u.bounds opened) (fresh : before ≡ []) (starts : IsStarted opened started fuel end before wrote) (is : s ≡ end_status end) where
-  started_so : IsStarted opened started u.bounds.fuel end [] wrote
-  started_so = subst (λ (n : ℕ). IsStarted opened started n end [] wrote) (sym handed.fuel_is) (subst (λ (x : List ℕ). IsStarted opened started fuel end x wrote) fresh starts)
+module _ (fuel : ℕ) (names : List ℕ) (calls : List Call) (opened started : Opened) (before wrote : List ℕ) (end : End) (s : Status) (fresh : before ≡ []) (starts : IsStarted opened started fuel end before wrote) (is : s ≡ end_status end) where
+  started_so : IsStarted opened started fuel end [] wrote
+  started_so = subst (λ (x : List ℕ). IsStarted opened started fuel end x wrote) fresh starts
 
-  pub used_done : (last : Opened) (old answers : List Answer) (answered : ℕ) (written : List ℕ) → end ≡ Done → answered ≡ min (length calls) (length old) → length answers ≡ length old
-      → AreAnswered names started (take answered calls) (take answered answers) wrote last written → IsUsed u answers s answered written
-  used_done last old answers answered written done count room made = record {
-    opened = opened;
-    begun = begun;
+  pub runs_done : (last : Opened) (old answers : List Answer) (answered : ℕ) (written : List ℕ) → end ≡ Done → answered ≡ min (length calls) (length old) → length answers ≡ length old
+      → AreAnswered names started (take answered calls) (take answered answers) wrote last written → RunsAndAnswers opened fuel names calls answers s answered written
+  runs_done last old answers answered written done count room made = record {
     end = end;
     status = is;
     started = started;
     wrote = wrote;
     starts = started_so;
     last = last;
-    calls = λ e. (
-      count ∙ ap (min (length calls)) (sym room) ∙ ap (λ (cs : List Call). min (length cs) (length answers)) (sym handed.calls_are),
-      subst (λ (ns : List ℕ). AreAnswered ns started (take answered u.calls) (take answered answers) wrote last written) (sym handed.names_are)
-          (subst (λ (cs : List Call). AreAnswered names started (take answered cs) (take answered answers) wrote last written) (sym handed.calls_are) made),
-    );
+    answered_so = λ e. (count ∙ ap (min (length calls)) (sym room), made);
     none = λ not. absurd (not done);
   }
 
-  pub used_ended : (answers : List Answer) (answered : ℕ) → end ≢ Done → answered ≡ 0 → IsUsed u answers s answered wrote
-  used_ended answers answered not none = record {
-    opened = opened;
-    begun = begun;
+  pub runs_ended : (answers : List Answer) (answered : ℕ) → end ≢ Done → answered ≡ 0 → RunsAndAnswers opened fuel names calls answers s answered wrote
+  runs_ended answers answered not none = record {
     end = end;
     status = is;
     started = started;
     wrote = wrote;
     starts = started_so;
     last = started;
-    calls = λ e. absurd (not e);
+    answered_so = λ e. absurd (not e);
     none = λ e. (none, refl);
   }
 

@@ -1,10 +1,15 @@
 -- How code opens a file, and why it doesn't.
-use Rattle.std.specs.Prelude.{◌≡◌, ℕ, List}
+use Rattle.std.specs.Prelude.{◌≡◌, ℕ, List, Some}
+use Rattle.abc_base.specs.Hosts.{builtin_formulas}
+use Rattle.abc_heap_store.specs.declared.records.Limit.{Limit}
 use Rattle.abc_link_names.specs.Linked.{LinkedFile}
+use Rattle.abc_meaning.specs.Meaning.{first_world, too_small}
+use Rattle.abc_meaning.specs.Openings.{setting}
 use Rattle.abc_verify.specs.FileRefusing.{IsFileRefused}
 use Rattle.abc_verify.specs.Verified.{IsReadVerified}
 use Rattle.abc_verify.specs.declared.verified_error.VerifiedError.{VerifiedError}
 use Rattle.abc_verify.specs.declared.verified_error.VerifiedError.TheVariants as errors
+use Rattle.abc_c.specs.Crossing.{limits_of_bounds}
 use Rattle.abc_c.specs.Outcome.{IsTooSmall}
 use Rattle.abc_c.specs.declared.crossing.Bounds.{Bounds}
 use Rattle.abc_c.specs.declared.opening.Unopened.{Unopened}
@@ -22,6 +27,12 @@ IsUnread file errors.ReadFault = ⊥
 IsUnread file (errors.Refused place reason) = IsFileRefused file (errors.Refused place reason)
 IsUnread file (errors.Link rule i) = IsFileRefused file (errors.Link rule i)
 IsUnread file (errors.Verify m offset rule) = IsFileRefused file (errors.Verify m offset rule)
+
+-- why no session of a verified file is opened: what every run begins with passes a limit, or there is no memory
+abbrev pub IsUnopened : LinkedFile → Bounds → Unopened → Type 0
+IsUnopened l bounds (unopened.Refused e) = ⊥
+IsUnopened l bounds unopened.TooSmall = (which : Limit) × (too_small (first_world (setting l builtin_formulas) (limits_of_bounds bounds)).heap ≡ Some which)
+IsUnopened l bounds unopened.NoMemory = Unit {0}
 
 -- why a file is not opened: it is refused, what every run begins with passes a limit, or there is no memory
 abbrev pub IsUnopenedFor : List ℕ → Bounds → Unopened → Type 0

@@ -98,24 +98,22 @@ pub record Use : Type 0 where
 abbrev pub use_of : (file : List ℕ) → Bounds → (names : List ℕ) → List Call → Use
 use_of file bounds names calls = record { file = file; bounds = bounds; names = names; calls = calls }
 
--- the fuel of the run, the names and the calls are these
-pub record IsHanded (u : Use) (fuel : ℕ) (names : List ℕ) (calls : List Call) : Type 0 where
-  pub fuel_is : u.bounds.fuel ≡ fuel
-  pub names_are : u.names ≡ names
-  pub calls_are : u.calls ≡ calls
-
--- the script was run; where that was done, calls were made, as far as there is room for answers
-pub record IsUsed (u : Use) (answers : List Answer) (s : Status) (answered : ℕ) (written : List ℕ) : Type 0 where
-  pub opened : Opened
-  pub begun : IsOpenedFor u.file u.bounds opened
+-- the script of a session was run; where that was done, calls were made, as far as there is room for answers
+pub record RunsAndAnswers (opened : Opened) (fuel : ℕ) (names : List ℕ) (calls : List Call) (answers : List Answer) (s : Status) (answered : ℕ) (written : List ℕ) : Type 0 where
   pub end : End
   pub status : s ≡ end_status end
   pub started : Opened
   pub wrote : List ℕ
-  pub starts : IsStarted opened started u.bounds.fuel end [] wrote
+  pub starts : IsStarted opened started fuel end [] wrote
   pub last : Opened
-  pub calls : end ≡ Done → (answered ≡ min (length u.calls) (length answers)) × AreAnswered u.names started (take answered u.calls) (take answered answers) wrote last written
+  pub answered_so : end ≡ Done → (answered ≡ min (length calls) (length answers)) × AreAnswered names started (take answered calls) (take answered answers) wrote last written
   pub none : end ≢ Done → (answered ≡ 0) × (written ≡ wrote)
+
+-- the file was opened, its script was run, and calls were made
+pub record IsUsed (u : Use) (answers : List Answer) (s : Status) (answered : ℕ) (written : List ℕ) : Type 0 where
+  pub opened : Opened
+  pub begun : IsOpenedFor u.file u.bounds opened
+  pub runs : RunsAndAnswers opened u.bounds.fuel u.names u.calls answers s answered written
 
 -- what came: a status, where the file was refused, how many calls were answered, and what was written
 pub data ComesOfUse (u : Use) (answers : List Answer) : Status → Refusal → (answered : ℕ) → (written : List ℕ) → Type 0 where

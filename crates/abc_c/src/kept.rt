@@ -1,15 +1,16 @@
-ghost use Rattle.std.specs.Prelude.{◌≡◌, List, MatchResult, None, Some};
-ghost use Rattle.abc_base.specs.Hosts.{plain_arguments, builtin_formulas};
+ghost use Rattle.std.specs.Prelude.{◌≡◌, MatchResult, None};
+ghost use Rattle.abc_base.specs.Hosts.{builtin_formulas};
 ghost use Rattle.abc_heap_values.specs.declared.values.Span.{Span};
-ghost use Rattle.abc_machine.specs.Texts.{CanTell, told_text};
-ghost use Rattle.abc_meaning.specs.Exports.{IsScriptMethod, export as export_of};
-ghost use Rattle.abc_meaning.specs.Openings.{IsOpeningRefused, setting};
+ghost use Rattle.abc_machine.specs.Machines.{IsOpened};
+ghost use Rattle.abc_machine.specs.Texts.{CanTell};
+ghost use Rattle.abc_meaning.specs.Exports.{IsScriptMethod};
+ghost use Rattle.abc_meaning.specs.Openings.{setting};
 ghost use Rattle.abc_session.specs.Beside.{IsBeside};
 ghost use Rattle.abc_session.specs.Told.{HasToldText};
 ghost use Rattle.abc_c.specs.Answered.{IsAnswered, IsDone, Tells, PutsText, PutsValue, end_status};
-ghost use Rattle.abc_c.specs.Crossing.{CanBeMade, limits_of_bounds, name_of_call};
-ghost use Rattle.abc_c.specs.Opening.{IsReadIn, IsUnopenedFor};
-ghost use Rattle.abc_c.specs.Outcome.{IsOpenedFor, IsStarted};
+ghost use Rattle.abc_c.specs.Crossing.{CanBeMade, limits_of_bounds};
+ghost use Rattle.abc_c.specs.Opening.{IsUnopened};
+ghost use Rattle.abc_c.specs.Outcome.{IsStarted};
 
 use crate::crossing::{Answer, Bounds, Call, Kind};
 use crate::opening::Unopened;
@@ -89,10 +90,9 @@ fn tell(session: &Session, reply: SessionReply, out: &mut MemSink) -> Answer
 impl Kept {
     /// Opens a verified file within bounds.
     pub fn open(alloc: Global, verified: Verified, bounds: &Bounds) -> Result<Kept, Unopened>
-        ghost file: { List ℕ }
-        requires { IsReadIn file verified }
-        ensures { MatchResult result (λ kept. IsOpenedFor file bounds.now kept.session)
-            (IsUnopenedFor file bounds.now) }
+        ensures { MatchResult result
+            (λ kept. IsOpened verified builtin_formulas (limits_of_bounds bounds.now) kept.session)
+            (IsUnopened verified bounds.now) }
     {
         sessions_stay_beside();
         match Session::open(alloc, verified, &bounds.limits(), &BuiltinHost) {

@@ -7,9 +7,9 @@ mod crossing;
 mod kept;
 mod opening;
 
-ghost use Rattle.std.specs.Prelude.{◌≡◌, [], length, Some};
+ghost use Rattle.std.specs.Prelude.{◌≡◌, [], length, None, Some};
 ghost use Rattle.abc_base.specs.Sinks.{GrowsByFront};
-ghost use Rattle.abc_c.specs.Outcome.{ComesOfUse, HasOutcome, IsOpenedFor, IsHanded, IsUsed, Use, reason_of, refusal_of as refusal_in, no_refusal as none_refused, use_of};
+ghost use Rattle.abc_c.specs.Outcome.{ComesOfUse, HasOutcome, RunsAndAnswers, reason_of, refusal_of as refusal_in, no_refusal as none_refused, use_of};
 
 use crate::answers::{answer_all, copy_out};
 use crate::crossing::{Answer, Bounds, Call, Outcome, Refusal};
@@ -53,11 +53,10 @@ fn run(
     answers: &mut [Answer],
     out: &mut MemSink,
 ) -> Came
-    ghost u: { Use }
-    requires begun { IsOpenedFor u.file u.bounds kept.old.session }
-    requires handed { IsHanded u fuel names.now calls.now }
+    requires begun { (kept.old.session).ended ≡ None }
     requires fresh { (out.old).taken ≡ [] }
-    ensures used { IsUsed u answers.new result.status result.answered (out.new).taken }
+    ensures used { RunsAndAnswers kept.old.session fuel names.now calls.now answers.new result.status
+        result.answered (out.new).taken }
     ensures refusal { result.refusal ≡ none_refused }
     ensures room { length answers.new ≡ length answers.old }
 {

@@ -1,5 +1,6 @@
-ghost use Rattle.std.specs.Prelude.{◌≡◌, MatchResult};
+ghost use Rattle.std.specs.Prelude.{◌≡◌, ℕ, List, MatchResult};
 ghost use Rattle.abc_c.specs.Opening.{IsReadIn, IsUnopenedFor, IsUnread};
+ghost use Rattle.abc_c.specs.declared.crossing.Bounds.{Bounds};
 ghost use Rattle.abc_c.specs.Outcome.{IsOpenedFor, item_code, reason_of, refusal_of as refusal_in, no_refusal as none_refused};
 
 use crate::crossing::{Bounds, Refusal};
@@ -36,6 +37,16 @@ fn read_in(alloc: Global, bytes: &[u8]) -> Result<Verified, VerifiedError>
     }
 }
 
+/// Why no session is opened of bytes that are no verified file.
+fn unopened_by(e: VerifiedError) -> Unopened
+    ensures { (file : List ℕ) (bounds : Bounds) → IsUnread file e → IsUnopenedFor file bounds result }
+{
+    match e {
+        VerifiedError::NoMemory => Unopened::NoMemory,
+        _ => Unopened::Refused(e),
+    }
+}
+
 /// The session of the file that some bytes are.
 pub fn open(alloc: Global, bytes: &[u8], bounds: &Bounds) -> Result<Kept, Unopened>
     ensures { MatchResult result (λ kept. IsOpenedFor bytes.now bounds.now kept.session)
@@ -43,8 +54,7 @@ pub fn open(alloc: Global, bytes: &[u8], bounds: &Bounds) -> Result<Kept, Unopen
 {
     match read_in(alloc, bytes) {
         Ok(verified) => Kept::open(alloc, verified, bounds),
-        Err(VerifiedError::NoMemory) => Err(Unopened::NoMemory),
-        Err(e) => Err(Unopened::Refused(e)),
+        Err(e) => Err(unopened_by(e)),
     }
 }
 
