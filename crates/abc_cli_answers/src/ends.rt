@@ -45,7 +45,7 @@ fn give_file<E: Sink>(err: &mut E, place: u32, reason: Reason) -> Status
 /// Writes the line of a refused text.
 #[tactic(auto, using(crate::proofs::Ending::gives))]
 fn give_text<E: Sink>(err: &mut E, line: u32, reason: AsmReason) -> Status
-    ensures { GivesLine (stream E.written E.faults err.old err.new) (stop_answer (Stop.Text told_line reason))
+    ensures { GivesLine (stream E.written E.faults err.old err.new) (stop_answer (Stop.Text line reason))
         result }
 {
     let written = write_place(err, b"line", u64::from(line), reason.name());
