@@ -1,6 +1,6 @@
 ghost use Rattle.std.specs.Prelude.{◌≡◌, is_ok, if◌then◌else◌};
 ghost use Rattle.abc_cli_answers.specs.End.{GivesBytes, GivesLine, stream};
-ghost use Rattle.abc_cli_answers.specs.Lines.{kind_of_tidy, told_line, write_fault_text, no_command_text};
+ghost use Rattle.abc_cli_answers.specs.Lines.{kind_of_tidy, write_fault_text, no_command_text};
 ghost use Rattle.abc_cli_answers.specs.Answers.{line_answer};
 ghost use Rattle.abc_cli_answers.specs.Stops.{IsGiven, stop_answer};
 
